@@ -1,0 +1,4 @@
+pub mod Bytes
+pub mod Letters
+pub mod Forms
+pub mod Laws
