@@ -56,7 +56,7 @@ pub fn text<const N: usize>(alphabet: Alphabet, bytes: &[u8]) -> Option<[u8; N]>
 pub fn reference(bytes: &[u8]) -> Option<[u8; 7]>
     ensures { λ r. ⌜ r ≡ referenceIn (now (bytes .entry)) ⌝ }
 {
-    text(Alphabet::Names, bytes)
+    text::<7>(Alphabet::Names, bytes)
 }
 
 // The last file reference: as a file reference, or seven blanks.
