@@ -2,7 +2,6 @@
 use std::env;
 use std::error::AnyError;
 
-mod files;
 mod rows;
 mod words;
 

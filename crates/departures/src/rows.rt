@@ -1,5 +1,5 @@
 // Rows one by one: what each holds, or why it is turned away.
-use crate::files::split_row;
+use files::split_row;
 use crate::words::Text;
 use crate::words::TextDisplay;
 use crate::words::Words;

@@ -16,7 +16,7 @@ pub enum Alphabet {
 }
 
 impl Alphabet {
-    pub fn has(self, b: u8) -> bool
+    pub(crate) fn has(self, b: u8) -> bool
         ensures { λ r. ⌜ r ≡ allows self b ⌝ }
     {
         match self {
@@ -30,7 +30,7 @@ impl Alphabet {
     }
 
     // Whether all bytes are of this alphabet.
-    pub fn has_all(self, bytes: &[u8]) -> bool
+    pub(crate) fn has_all(self, bytes: &[u8]) -> bool
         ensures { λ r. ⌜ r ≡ every (allows self) (now (bytes .entry)) ⌝ }
     {
         for b in bytes {

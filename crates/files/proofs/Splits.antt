@@ -7,7 +7,7 @@ use lib.Dec.{eqb}
 use lib.ListN.{length, getD, take, drop}
 use Rattle.std.proofs.shelf.Lists.{at-drop-more, take-more}
 use Rattle.std.proofs.shelf.Tests.{cond-true, cond-false}
-use Rattle.departures.specs.Files.{firstRow, otherRows}
+use Rattle.files.specs.Files.{firstRow, otherRows}
 
 module _ (cs : List ℕ) (i : ℕ) (l : i < length cs) where
   -- at a line feed the row ends
