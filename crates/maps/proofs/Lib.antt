@@ -1,0 +1,4 @@
+pub mod Maps
+pub mod Sorted
+pub mod Heaped
+pub mod Lowest

@@ -1,0 +1,5 @@
+pub mod Changes
+pub mod Halves
+pub mod Lookups
+pub mod Puts
+pub mod Shifts

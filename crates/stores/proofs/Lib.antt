@@ -1,0 +1,4 @@
+pub mod BagMaps
+pub mod BagWhole
+pub mod Sizes
+pub mod TableWhole

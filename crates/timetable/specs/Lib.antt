@@ -1,0 +1,2 @@
+pub mod Timetables
+pub mod Laws
