@@ -29,7 +29,7 @@ fn is_letter_or_digit(byte: u8) -> bool {
 }
 
 /// A letter `A` to `Z` and five digits, kept as the number they stand for.
-#[derive(Clone, Copy, Debug, PartialEq, Eq)]
+#[derive(Clone, Copy, Debug, PartialEq, Eq, PartialOrd, Ord)]
 pub struct Uid(pub u32);
 
 impl Form for Uid {
@@ -180,13 +180,24 @@ impl Form for Transaction {
     }
 }
 
-/// `C`, `N`, `O` or `P`.
-#[derive(Clone, Copy, Debug, PartialEq, Eq)]
+/// `C`, `N`, `O` or `P`, in the order of their ranks.
+#[derive(Clone, Copy, Debug, PartialEq, Eq, PartialOrd, Ord)]
 pub enum StpLetter {
     Cancellation,
     NewShortTerm,
     Overlay,
     Permanent,
+}
+
+impl StpLetter {
+    pub fn letter(self) -> char {
+        match self {
+            StpLetter::Cancellation => 'C',
+            StpLetter::NewShortTerm => 'N',
+            StpLetter::Overlay => 'O',
+            StpLetter::Permanent => 'P',
+        }
+    }
 }
 
 impl Form for StpLetter {

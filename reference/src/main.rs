@@ -1,27 +1,39 @@
-//! An independent reference for `departures rows`, and a generator of rows to try it on.
+//! An independent reference for `departures`, and a generator of rows to try it on.
 //!
 //! It is written from the pages in `docs/` alone.
 
 mod calendar;
 mod fields;
+mod files;
 mod forms;
 mod generate;
 mod identity;
 mod refusal;
 mod report;
 mod row;
+mod stores;
 mod words;
 
-use std::ffi::OsString;
+use std::ffi::{OsStr, OsString};
 use std::io::{self, BufWriter, Write};
 use std::process::ExitCode;
+use std::str::FromStr;
 
-const USAGE: &str = "usage: reference rows FILE...\n       reference generate SEED COUNT";
+const USAGE: &str = "\
+usage: reference rows FILE...
+       reference stores CAPACITY FILE...
+       reference generate SEED COUNT
+       reference generate-schedules SEED COUNT";
+
+/// The most slots that the command line can ask for.
+const MOST_SLOTS: usize = 65_536;
 
 /// What the command line asks for.
 enum Command {
     Rows(Vec<OsString>),
+    Stores { slots: usize, names: Vec<OsString> },
     Generate { seed: u64, count: usize },
+    GenerateSchedules { seed: u64, count: usize },
 }
 
 impl Command {
@@ -30,9 +42,17 @@ impl Command {
         let (name, rest) = arguments.split_first()?;
         match (name.to_str()?, rest) {
             ("rows", [_, ..]) => Some(Command::Rows(rest.to_vec())),
+            ("stores", [slots, names @ ..]) if !names.is_empty() => Some(Command::Stores {
+                slots: number(slots).filter(|&slots| slots <= MOST_SLOTS)?,
+                names: names.to_vec(),
+            }),
             ("generate", [seed, count]) => Some(Command::Generate {
-                seed: seed.to_str()?.parse().ok()?,
-                count: count.to_str()?.parse().ok()?,
+                seed: number(seed)?,
+                count: number(count)?,
+            }),
+            ("generate-schedules", [seed, count]) => Some(Command::GenerateSchedules {
+                seed: number(seed)?,
+                count: number(count)?,
             }),
             _ => None,
         }
@@ -42,19 +62,36 @@ impl Command {
         let mut out = BufWriter::new(io::stdout().lock());
         match self {
             Command::Rows(names) => report::print(&names, &mut out)?,
+            Command::Stores { slots, names } => stores::print(slots, &names, &mut out)?,
             Command::Generate { seed, count } => generate::print(seed, count, &mut out)?,
+            Command::GenerateSchedules { seed, count } => {
+                generate::print_schedules(seed, count, &mut out)?;
+            }
         }
         out.flush()
     }
 }
 
+/// The number that an argument writes.
+fn number<N: FromStr>(argument: &OsStr) -> Option<N> {
+    argument.to_str()?.parse().ok()
+}
+
+/// The commands that `--` stands between, or `None` where one of them is none.
+fn commands(arguments: &[OsString]) -> Option<Vec<Command>> {
+    arguments
+        .split(|argument| argument == "--")
+        .map(Command::from_arguments)
+        .collect()
+}
+
 fn main() -> ExitCode {
     let arguments: Vec<OsString> = std::env::args_os().skip(1).collect();
-    let Some(command) = Command::from_arguments(&arguments) else {
+    let Some(commands) = commands(&arguments) else {
         eprintln!("{USAGE}");
         return ExitCode::from(2);
     };
-    match command.run() {
+    match commands.into_iter().try_for_each(Command::run) {
         Ok(()) => ExitCode::SUCCESS,
         Err(error) => {
             eprintln!("reference: {error}");

@@ -1,11 +1,11 @@
 //! The report over files of rows.
 
+use crate::files::{self, rows_of};
 use crate::refusal::Reason;
 use crate::row::Row;
 use std::collections::BTreeMap;
 use std::ffi::{OsStr, OsString};
 use std::fmt;
-use std::fs;
 use std::io::{self, Write};
 use std::ops::AddAssign;
 
@@ -37,9 +37,7 @@ pub fn print(names: &[OsString], out: &mut impl Write) -> io::Result<()> {
     let mut total = Tally::default();
     let mut told = Told::new();
     for name in names {
-        let bytes = fs::read(name).map_err(|error| {
-            io::Error::new(error.kind(), format!("{}: {error}", name.display()))
-        })?;
+        let bytes = files::read(name)?;
         total += print_file(name, &bytes, &mut told, out)?;
     }
     writeln!(out, "files {}, {total}", names.len())?;
@@ -79,25 +77,4 @@ fn print_file(
     }
     writeln!(out, "{tally}")?;
     Ok(tally)
-}
-
-/// The rows of a file: each ends at a line feed, which is not part of it, and a last row
-/// may lack it.
-fn rows_of(bytes: &[u8]) -> impl Iterator<Item = &[u8]> {
-    bytes
-        .split_inclusive(|&byte| byte == b'\n')
-        .map(|line| line.strip_suffix(b"\n").unwrap_or(line))
-}
-
-#[cfg(test)]
-mod tests {
-    use super::rows_of;
-
-    #[test]
-    fn where_rows_end() {
-        let lengths = |file: &'static [u8]| rows_of(file).map(<[u8]>::len).collect::<Vec<_>>();
-        assert_eq!(lengths(b""), []);
-        assert_eq!(lengths(b"\n"), [0]);
-        assert_eq!(lengths(b"ab\r\n\nc"), [3, 0, 1]);
-    }
 }

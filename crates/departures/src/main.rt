@@ -1,31 +1,64 @@
 // Reads files of rows in the CIF layout, and prints what they hold.
 use std::env;
+use stores::bag::Bag;
+use stores::table::Table;
 use std::error::AnyError;
 
+mod drafts;
 mod rows;
+mod keeping;
 mod words;
 
-const USAGE: &str = "usage: departures rows FILE...";
+const USAGE: &str = "usage: departures rows FILE... | departures stores CAPACITY FILE...";
 
-fn run(rt: &LibcRuntime) -> Result<(), AnyError> {
-    let mut args = env::args(rt)?.skip(1);
-    let Some(command) = args.next() else {
-        return Err(USAGE.into());
-    };
-    if command.as_str() != "rows" {
-        return Err(USAGE.into());
-    }
+// How many slots may be asked for.
+const MOST_SLOTS: usize = 65_536;
+
+fn run_rows(rt: &LibcRuntime, names: &[String]) -> Result<(), AnyError> {
     let mut total = rows::Tally::new();
-    let mut files: u64 = 0;
-    for name in args {
+    for name in names {
         let tally = rows::print_file(rt, name.as_str())?;
         total.add(&tally);
-        files = files.saturating_add(1);
     }
-    if files == 0 {
+    rows::print_total(rt, names.len() as u64, &total)
+}
+
+fn run_stores(rt: &LibcRuntime, capacity: &str, names: &[String]) -> Result<(), AnyError> {
+    let slots = capacity.parse::<usize>()?;
+    if slots > MOST_SLOTS {
         return Err(USAGE.into());
     }
-    rows::print_total(rt, files, &total)
+    let blank = keeping::empty_record();
+    let mut first = vec![in rt.alloc(); blank; slots]?;
+    let mut second = vec![in rt.alloc(); blank; slots]?;
+    let mut table = Table::new(first.as_mut_slice());
+    let mut bag = Bag::new(second.as_mut_slice());
+    for name in names {
+        keeping::take_file(rt, &mut table, &mut bag, name.as_str())?;
+    }
+    keeping::print_stores(rt, &mut table, &mut bag)
+}
+
+fn run_task(rt: &LibcRuntime, words: &[String]) -> Result<(), AnyError> {
+    match words {
+        [command, names @ ..] if command.as_str() == "rows" && !names.is_empty() => run_rows(rt, names),
+        [command, capacity, names @ ..] if command.as_str() == "stores" && !names.is_empty() => run_stores(rt, capacity.as_str(), names),
+        _ => Err(USAGE.into()),
+    }
+}
+
+// Does the tasks that `--` stands between.
+fn run(rt: &LibcRuntime) -> Result<(), AnyError> {
+    let mut words: Vec<String> = Vec::new(rt.alloc());
+    for word in env::args(rt)?.skip(1) {
+        if word.as_str() == "--" {
+            run_task(rt, words.as_slice())?;
+            words.clear();
+        } else {
+            words.push(word)?;
+        }
+    }
+    run_task(rt, words.as_slice())
 }
 
 fn main(rt: LibcRuntime) -> Result<(), AnyError> {

@@ -9,6 +9,7 @@ use cif::identity::Identity;
 use cif::refusal::Refusal;
 use forms::letters::Coverage;
 use forms::letters::Stp;
+use schedule::key::Key;
 use std::fmt;
 use std::fmt::Display;
 use std::fmt::Formatter;
@@ -28,14 +29,25 @@ pub impl Display for Text<'_> as TextDisplay {
 
 // A UID, made again from its number.
 #[derive(Clone, Copy)]
+struct Uid(u32);
+
+impl Display for Uid as UidDisplay {
+    fn fmt<W: fmt::Write>(&self, f: &mut Formatter<W>) -> fmt::Result {
+        let letter = (b'A' + (self.0 / 100_000 % 26) as u8) as char;
+        let digits = self.0 % 100_000;
+        write!(f, "{letter}{digits:05}")
+    }
+}
+
+// A train, by its UID and the UID's number.
+#[derive(Clone, Copy)]
 struct Train(u32);
 
 impl Display for Train as TrainDisplay {
     fn fmt<W: fmt::Write>(&self, f: &mut Formatter<W>) -> fmt::Result {
+        let uid = Uid(self.0);
         let n = self.0;
-        let letter = (b'A' + (n / 100_000 % 26) as u8) as char;
-        let digits = n % 100_000;
-        write!(f, "{letter}{digits:05} (number {n})")
+        write!(f, "{uid} (number {n})")
     }
 }
 
@@ -73,9 +85,9 @@ fn short_name(day: usize) -> &'static str {
 
 // The days of the week on which a train runs.
 #[derive(Clone, Copy)]
-struct DaysRun<'a>(&'a [bool; 7]);
+pub struct DaysRun<'a>(pub &'a [bool; 7]);
 
-impl Display for DaysRun<'_> as DaysRunDisplay {
+pub impl Display for DaysRun<'_> as DaysRunDisplay {
     fn fmt<W: fmt::Write>(&self, f: &mut Formatter<W>) -> fmt::Result {
         let mut none = true;
         for (day, runs) in self.0.iter().enumerate() {
@@ -242,5 +254,19 @@ pub fn meaning(refusal: Refusal) -> &'static str {
         Refusal::StoreFull => "the store is full",
         Refusal::NoSuchBoard => "no such station or day",
         Refusal::TooFewSlots => "too few line slots",
+    }
+}
+
+// A schedule's key.
+#[derive(Clone, Copy)]
+pub struct KeyWords(pub Key);
+
+pub impl Display for KeyWords as KeyDisplay {
+    fn fmt<W: fmt::Write>(&self, f: &mut Formatter<W>) -> fmt::Result {
+        let key = self.0;
+        let uid = Uid(key.uid);
+        let letter = key.stp.letter() as char;
+        let day = key.from;
+        write!(f, "{uid} {letter} day {day}")
     }
 }

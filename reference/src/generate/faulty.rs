@@ -31,10 +31,25 @@ pub fn row(random: &mut SplitMix) -> Vec<u8> {
     }
 }
 
-/// Up to a few hundred bytes, but most often 79 or 81.
+/// This row of this sort, with a fault.
+pub fn spoilt(random: &mut SplitMix, sort: Sort, row: Vec<u8>) -> Vec<u8> {
+    match random.below(6) {
+        0 => with_wrong_length(random, row),
+        1 => with_unprintable(random, row),
+        2 => with_unknown_identity(random, row),
+        _ if sort.fields().is_empty() => with_unknown_identity(random, row),
+        _ => with_bad_fields(random, sort, row, 1),
+    }
+}
+
 fn wrong_length(random: &mut SplitMix) -> Vec<u8> {
     let sort = lawful::sort(random);
-    let mut row = lawful::row(random, sort);
+    let row = lawful::row(random, sort);
+    with_wrong_length(random, row)
+}
+
+/// Up to a few hundred bytes, but most often 79 or 81.
+fn with_wrong_length(random: &mut SplitMix, mut row: Vec<u8>) -> Vec<u8> {
     let length = match random.below(8) {
         0..=2 => 79,
         3..=5 => 81,

@@ -2,6 +2,7 @@
 
 mod faulty;
 mod lawful;
+mod schedules;
 mod spec;
 mod splitmix;
 
@@ -13,6 +14,16 @@ pub fn print(seed: u64, count: usize, out: &mut impl Write) -> io::Result<()> {
     let mut random = SplitMix::new(seed);
     for _ in 0..count {
         out.write_all(&row(&mut random))?;
+        out.write_all(b"\n")?;
+    }
+    Ok(())
+}
+
+/// Prints an extract of so many schedules, each row ended by a line feed; one seed gives
+/// always the same.
+pub fn print_schedules(seed: u64, count: usize, out: &mut impl Write) -> io::Result<()> {
+    for row in schedules::extract(&mut SplitMix::new(seed), count) {
+        out.write_all(&row)?;
         out.write_all(b"\n")?;
     }
     Ok(())
