@@ -30,11 +30,12 @@ parts k m d there =
     let e = and-parts (leb 1 d) _ (c .1) in
     let short = ltb-true k 100 (a .0) in
     record {
-        years = short;
-        first-month = leb-true 1 m (b .0);
-        last-month = leb-true m 12 (c .0);
-        first-day = leb-true 1 d (e .0);
-        last-day = rw (ap (λ (leap : Bool). daysIn leap m) (same-leap k short)) at (leb-true d (daysIn (isLeapYear (1960 + k)) m) (e .1)) }
+      years = short;
+      first-month = leb-true 1 m (b .0);
+      last-month = leb-true m 12 (c .0);
+      first-day = leb-true 1 d (e .0);
+      last-day = rw (ap (λ (leap : Bool). daysIn leap m) (same-leap k short)) at (leb-true d (daysIn (isLeapYear (1960 + k)) m) (e .1));
+    }
 
 -- a month starts where the one before it ends
 month-more : (k m : ℕ) → 1 ≤ m → m < 12 → monthStart k (m + 1) ≡ monthStart k m + daysIn (eqb (k % 4) 0) m
@@ -64,17 +65,17 @@ module _ (x : Date) (p : Parts (x .year) (x .month) (x .day)) where
   -- the day is the month's last
   all-days : ltb (x .day) (daysIn (isLeapYear (1960 + x .year)) (x .month)) ≡ false → x .day ≡ daysIn (eqb (x .year % 4) 0) (x .month)
   all-days full =
-    let e = ap (λ (leap : Bool). daysIn leap (x .month)) (same-leap (x .year) (p .years)) in
-    let h = p .last-day in
-    omega (arith, e, ltb-false (x .day) (daysIn (isLeapYear (1960 + x .year)) (x .month)) full)
+      let e = ap (λ (leap : Bool). daysIn leap (x .month)) (same-leap (x .year) (p .years)) in
+      let h = p .last-day in
+      omega (arith, e, ltb-false (x .day) (daysIn (isLeapYear (1960 + x .year)) (x .month)) full)
 
 next-number : (x : Date) → Real x → numberOf (tomorrow x) ≡ numberOf x + 1
 next-number x there =
     let p = parts (x .year) (x .month) (x .day) there in
     cond-both (ltb (x .day) (daysIn (isLeapYear (1960 + x .year)) (x .month))) _ _ (λ (y : Date). numberOf y ≡ numberOf x + 1) (λ _. in-month x p)
     (λ full. cond-both (ltb (x .month) 12) _ _ (λ (y : Date). numberOf y ≡ numberOf x + 1)
-        (λ l. in-year x p (all-days x p full) (ltb-true (x .month) 12 l))
-        (λ l. in-next x p (all-days x p full) (let g = p .last-month in let h = ltb-false (x .month) 12 l in omega arith)))
+    (λ l. in-year x p (all-days x p full) (ltb-true (x .month) 12 l))
+    (λ l. in-next x p (all-days x p full) (let g = p .last-month in let h = ltb-false (x .month) 12 l in omega arith)))
 
 next-weekday : (n m : ℕ) → m ≡ n + 1 → weekday m ≡ (weekday n + 1) % 7
 next-weekday n m e = omega arith
@@ -82,9 +83,10 @@ next-weekday n m e = omega arith
 pub numbers-the-days : Numbers-the-days
 numbers-the-days =
     record {
-        begins = refl;
-        follows = next-number;
-        turns = λ x there. next-weekday (numberOf x) (numberOf (tomorrow x)) (next-number x there) }
+      begins = refl;
+      follows = next-number;
+      turns = λ x there. next-weekday (numberOf x) (numberOf (tomorrow x)) (next-number x there);
+    }
 
 -- the days before a year
 abbrev yearStart : ℕ → ℕ
@@ -108,9 +110,13 @@ earlier-year k m d j n e p q h =
 -- and so has an earlier month of one year
 earlier-month : (k m d n e : ℕ) → Parts k m d → Parts k n e → m < n → dayNumber k m d < dayNumber k n e
 earlier-month k m d n e p q h =
-    omega (arith, in-its-month k m d p, in-its-month k n e q,
-        month-more k m (p .first-month) (let t = q .last-month in omega arith),
-        month-later k (m + 1) n (omega arith) (omega arith) (q .last-month))
+    omega (
+      arith,
+      in-its-month k m d p,
+      in-its-month k n e q,
+      month-more k m (p .first-month) (let t = q .last-month in omega arith),
+      month-later k (m + 1) n (omega arith) (omega arith) (q .last-month),
+    )
 
 -- neither comes first, so they are the same
 neither : (a b : ℕ) → (a < b → ⊥) → (b < a → ⊥) → a ≡ b
@@ -139,6 +145,6 @@ tells-dates-apart x y there here same =
     let same3 : dayNumber (x .year) (x .month) (x .day) ≡ dayNumber (x .year) (x .month) (y .day) = same2 ∙ ap (λ (m : ℕ). dayNumber (x .year) m (y .day)) (sym month) in
     let day : x .day ≡ y .day = same-day (x .year) (x .month) (x .day) (y .day) p q3 same3 in
     alike (x .year) (x .month) (x .day) (y .year) (y .month) (y .day) year month day
-    where
-      alike : (k m d j n e : ℕ) → k ≡ j → m ≡ n → d ≡ e → _≡_ {A = Date} (record { year = k; month = m; day = d }) (record { year = j; month = n; day = e })
-      alike k m d j n e a b c = cc
+  where
+    alike : (k m d j n e : ℕ) → k ≡ j → m ≡ n → d ≡ e → _≡_ {A = Date} (record { year = k; month = m; day = d }) (record { year = j; month = n; day = e })
+    alike k m d j n e a b c = cc

@@ -40,7 +40,7 @@ located t s a d p = record { tiploc = t; suffix = s; arrival = a; departure = d;
 -- fields that are read one after another are told in that order
 module _ {A B C Y : Type 0} where
   three-told : (a : Option A) (b : Option B) (c : Option C) (p q r : ℕ) (k : A → B → C → Y)
-    → faultOf (then (formed p a) (λ x. then (formed q b) (λ y. then (formed r c) (λ z. Ok (k x y z))))) ≡ uppermost (lacks p a ∷ lacks q b ∷ lacks r c ∷ [])
+      → faultOf (then (formed p a) (λ x. then (formed q b) (λ y. then (formed r c) (λ z. Ok (k x y z))))) ≡ uppermost (lacks p a ∷ lacks q b ∷ lacks r c ∷ [])
   three-told None b c p q r k = refl
   three-told (Some x) None c p q r k = refl
   three-told (Some x) (Some y) None p q r k = refl
@@ -48,14 +48,14 @@ module _ {A B C Y : Type 0} where
 
 module _ {A B C D Y : Type 0} where
   four-told : (a : Option A) (b : Option B) (c : Option C) (d : Option D) (p q r s : ℕ) (k : A → B → C → D → Y)
-    → faultOf (then (formed p a) (λ x. then (formed q b) (λ y. then (formed r c) (λ z. then (formed s d) (λ v. Ok (k x y z v))))))
+      → faultOf (then (formed p a) (λ x. then (formed q b) (λ y. then (formed r c) (λ z. then (formed s d) (λ v. Ok (k x y z v))))))
       ≡ uppermost (lacks p a ∷ lacks q b ∷ lacks r c ∷ lacks s d ∷ [])
   four-told None b c d p q r s k = refl
   four-told (Some x) b c d p q r s k = three-told b c d q r s (k x)
 
 module _ {A B C D E Y : Type 0} where
   five-told : (a : Option A) (b : Option B) (c : Option C) (d : Option D) (e : Option E) (p q r s t : ℕ) (k : A → B → C → D → E → Y)
-    → faultOf (then (formed p a) (λ x. then (formed q b) (λ y. then (formed r c) (λ z. then (formed s d) (λ v. then (formed t e) (λ w. Ok (k x y z v w)))))))
+      → faultOf (then (formed p a) (λ x. then (formed q b) (λ y. then (formed r c) (λ z. then (formed s d) (λ v. then (formed t e) (λ w. Ok (k x y z v w)))))))
       ≡ uppermost (lacks p a ∷ lacks q b ∷ lacks r c ∷ lacks s d ∷ lacks t e ∷ [])
   five-told None b c d e p q r s t k = refl
   five-told (Some x) b c d e p q r s t k = four-told b c d e q r s t (k x)
@@ -88,7 +88,7 @@ operator-told row = one (operatorOf row)
 
 -- the order of the days, as a test of either way round
 order-last : {Y : Type 0} (from to : ℕ) (y : Y)
-  → faultOf (cond (leb from to) (Ok y) (Err (faultAt EndsBeforeStart 16))) ≡ uppermost (line EndsBeforeStart 16 (ltb to from) ∷ [])
+    → faultOf (cond (leb from to) (Ok y) (Err (faultAt EndsBeforeStart 16))) ≡ uppermost (line EndsBeforeStart 16 (ltb to from) ∷ [])
 order-last from to y = grind (arith, tells)
 
 module _ (ui : Option ℕ) (fr to : Option (ℕ × ℕ)) (da : Option (List Bool)) (tn : Option (List ℕ)) (st : Option Stp) where
@@ -97,16 +97,16 @@ module _ (ui : Option ℕ) (fr to : Option (ℕ × ℕ)) (da : Option (List Bool
 
   abbrev nested : Option Transaction → Result Schedule ColumnFault
   nested tr =
-    then (formed 3 tr) (λ t. then (formed 4 ui) (λ u. then (formed 10 fr) (λ f. then (changeIn t running) (λ c. then (formed 80 st) (λ s.
-    cond (runsOn f c) (Ok (record { uid = u; from = f; stp = s; change = c })) (Err (faultAt EndsBeforeStart 16)))))))
+      then (formed 3 tr) (λ t. then (formed 4 ui) (λ u. then (formed 10 fr) (λ f. then (changeIn t running) (λ c. then (formed 80 st) (λ s.
+      cond (runsOn f c) (Ok (record { uid = u; from = f; stp = s; change = c })) (Err (faultAt EndsBeforeStart 16)))))))
 
   abbrev lines : Option Transaction → List Line
   lines tr =
-    lacks 3 tr ∷ lacks 4 ui ∷ lacks 10 fr ∷ onlyIf (readsAll tr) (lacks 16 to) ∷ onlyIf (readsAll tr) (lacks 22 da) ∷ onlyIf (readsAll tr) (lacks 33 tn)
-    ∷ lacks 80 st ∷ onlyIf (readsAll tr) (line EndsBeforeStart 16 (endsBefore fr to)) ∷ []
+      lacks 3 tr ∷ lacks 4 ui ∷ lacks 10 fr ∷ onlyIf (readsAll tr) (lacks 16 to) ∷ onlyIf (readsAll tr) (lacks 22 da) ∷ onlyIf (readsAll tr) (lacks 33 tn)
+      ∷ lacks 80 st ∷ onlyIf (readsAll tr) (line EndsBeforeStart 16 (endsBefore fr to)) ∷ []
 
 nested-told : (tr : Option Transaction) (ui : Option ℕ) (fr to : Option (ℕ × ℕ)) (da : Option (List Bool)) (tn : Option (List ℕ)) (st : Option Stp)
-  → faultOf (nested ui fr to da tn st tr) ≡ uppermost (lines ui fr to da tn st tr)
+    → faultOf (nested ui fr to da tn st tr) ≡ uppermost (lines ui fr to da tn st tr)
 nested-told None ui fr to da tn st = refl
 nested-told (Some t) None fr to da tn st = refl
 nested-told (Some t) (Some u) None to da tn st = refl
@@ -187,11 +187,11 @@ pub read-told : (row : List ℕ) → faultOf (readIn row) ≡ byTable row
 read-told row = at (eqb (length row) 80) (firstBad row) (identityIn row)
   where
     at : (long : Bool) (bad : Option ℕ) (id : Option Identity)
-      → faultOf (then (raised (inRow blanks) (wholeOf long bad id)) (λ i. raised (inRow (lettersIn row)) (contentIn i row)))
+        → faultOf (then (raised (inRow blanks) (wholeOf long bad id)) (λ i. raised (inRow (lettersIn row)) (contentIn i row)))
         ≡ mapped (toldIn row) (uppermost (wholeLines long bad id ++ fieldLinesIn id row))
     at false bad id = refl
     at true (Some column) id = refl
     at true None None = refl
     at true None (Some i) =
-      raised-told (inRow (lettersIn row)) (contentIn i row)
-      ∙ (ap (mapped (inRow (lettersIn row))) (content-told i row) ∙ late-told row (fieldLines i row) (fields-late i row))
+        raised-told (inRow (lettersIn row)) (contentIn i row)
+        ∙ (ap (mapped (inRow (lettersIn row))) (content-told i row) ∙ late-told row (fieldLines i row) (fields-late i row))

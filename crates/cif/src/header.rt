@@ -1,7 +1,6 @@
 // Header rows.
 ghost use mathlib.Core.Path.{_≡_};
 ghost use Rattle.cif.specs.Fields.{headerIn};
-
 use crate::content::Header;
 use crate::refusal::ColumnFault;
 use crate::refusal::Refusal;
@@ -18,6 +17,10 @@ impl Row {
         let current = reference(self.columns(33, 39)).ok_or(Refusal::BadForm.at(33))?;
         let last = last_reference(self.columns(40, 46)).ok_or(Refusal::BadForm.at(40))?;
         let coverage = Coverage::from_letter(self.byte(47) as char).ok_or(Refusal::BadForm.at(47))?;
-        Ok(Header { current, last, coverage })
+        Ok(Header {
+            current,
+            last,
+            coverage,
+        })
     }
 }

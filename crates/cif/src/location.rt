@@ -3,7 +3,6 @@ ghost use mathlib.Core.Path.{_≡_};
 ghost use Prim.Native.Nat.{_+_, _≤_};
 ghost use Rattle.cif.specs.Refusals.{formed};
 ghost use Rattle.cif.specs.Fields.{tiplocOf, suffixOf, timeAt, platformAt, originIn, intermediateIn, terminusIn};
-
 use crate::content::Location;
 use crate::refusal::ColumnFault;
 use crate::refusal::Refusal;
@@ -38,7 +37,10 @@ impl Row {
         requires { ⌜ 1 ≤ first ⌝ ∗ ⌜ first ≤ 78 ⌝ }
         ensures { λ r. ⌜ r ≡ formed first (platformAt first (now (self .entry) .bytes)) ⌝ }
     {
-        text(Alphabet::Labels, self.columns(first as usize, first as usize + 2)).ok_or(Refusal::BadForm.at(first))
+        text(
+            Alphabet::Labels,
+            self.columns(first as usize, first as usize + 2),
+        ).ok_or(Refusal::BadForm.at(first))
     }
 
     // The fields of an LO row.
@@ -49,7 +51,13 @@ impl Row {
         let suffix = self.suffix_field()?;
         let departure = self.time_field(16)?;
         let platform = self.platform_field(20)?;
-        Ok(Location { tiploc, suffix, arrival: None, departure, platform })
+        Ok(Location {
+            tiploc,
+            suffix,
+            arrival: None,
+            departure,
+            platform,
+        })
     }
 
     // The fields of an LI row.
@@ -61,7 +69,13 @@ impl Row {
         let arrival = self.time_field(26)?;
         let departure = self.time_field(30)?;
         let platform = self.platform_field(34)?;
-        Ok(Location { tiploc, suffix, arrival, departure, platform })
+        Ok(Location {
+            tiploc,
+            suffix,
+            arrival,
+            departure,
+            platform,
+        })
     }
 
     // The fields of an LT row.
@@ -72,6 +86,12 @@ impl Row {
         let suffix = self.suffix_field()?;
         let arrival = self.time_field(16)?;
         let platform = self.platform_field(20)?;
-        Ok(Location { tiploc, suffix, arrival, departure: None, platform })
+        Ok(Location {
+            tiploc,
+            suffix,
+            arrival,
+            departure: None,
+            platform,
+        })
     }
 }

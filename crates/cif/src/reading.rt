@@ -2,7 +2,6 @@
 ghost use mathlib.Core.Path.{_≡_};
 ghost use Rattle.cif.specs.Refusals.{faultOf};
 ghost use Rattle.cif.specs.Reading.{lettersIn, contentIn, readIn, byTable, Leftmost-is-told};
-
 use crate::content::Content;
 use crate::identity::Identity;
 use crate::refusal::ColumnFault;

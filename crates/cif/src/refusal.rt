@@ -33,7 +33,10 @@ impl Refusal {
     pub fn at(self, column: u8) -> ColumnFault
         ensures { λ r. ⌜ r ≡ faultAt self column ⌝ }
     {
-        ColumnFault { refusal: self, column }
+        ColumnFault {
+            refusal: self,
+            column,
+        }
     }
 }
 

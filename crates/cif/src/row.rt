@@ -4,7 +4,6 @@ ghost use mathlib.Core.Bool.{true};
 ghost use lib.ListN.{length};
 ghost use Rattle.cif.specs.Refusals.{missing};
 ghost use Rattle.cif.specs.Rows.{firstBad};
-
 use crate::identity::Identity;
 
 // 80 printable bytes, and their identity.

@@ -1,7 +1,6 @@
 // Rows that begin a schedule.
 ghost use mathlib.Core.Path.{_≡_};
 ghost use Rattle.cif.specs.Fields.{runningIn, changeIn, runsOn, scheduleIn, operatorIn};
-
 use crate::content::BasicSchedule;
 use crate::content::Change;
 use crate::content::Running;
@@ -53,7 +52,9 @@ impl Row {
     pub fn basic_schedule(&self) -> Result<BasicSchedule, ColumnFault>
         ensures { λ r. ⌜ r ≡ scheduleIn (now (self .entry) .bytes) ⌝ }
     {
-        let transaction = Transaction::from_letter(self.byte(3) as char).ok_or(Refusal::BadForm.at(3))?;
+        let transaction = Transaction::from_letter(self.byte(3) as char).ok_or(Refusal::BadForm.at(
+            3,
+        ))?;
         let uid = uid(self.columns(4, 9)).ok_or(Refusal::BadForm.at(4))?;
         let from = date(self.columns(10, 15)).ok_or(Refusal::BadForm.at(10))?;
         let change = self.change(transaction)?;
@@ -61,7 +62,12 @@ impl Row {
         if !change.runs_on(from) {
             return Err(Refusal::EndsBeforeStart.at(16));
         }
-        Ok(BasicSchedule { uid, from, stp, change })
+        Ok(BasicSchedule {
+            uid,
+            from,
+            stp,
+            change,
+        })
     }
 
     // The operator that a BX row names.

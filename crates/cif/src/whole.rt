@@ -8,7 +8,6 @@ ghost use Rattle.std.specs.declared.result.Result.the-variants.{Ok, Err};
 ghost use Rattle.forms.specs.Bytes.{columns, byteAt};
 ghost use Rattle.cif.specs.Refusals.{uppermost, faultOf};
 ghost use Rattle.cif.specs.Rows.{isPrintable, firstBad, rowLines, wholeIn};
-
 use crate::identity::Identity;
 use crate::refusal::ColumnFault;
 use crate::refusal::Refusal;

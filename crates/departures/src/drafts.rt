@@ -122,7 +122,11 @@ impl Draft {
 }
 
 fn begin(basic: &BasicSchedule) -> (Draft, Asked) {
-    let key = Key { uid: basic.uid, from: basic.from.0, stp: basic.stp };
+    let key = Key {
+        uid: basic.uid,
+        from: basic.from.0,
+        stp: basic.stp,
+    };
     match &basic.change {
         Change::Delete => (Draft::None, Asked::Remove(key)),
         Change::New(running) | Change::Revise(running) => {

@@ -3,8 +3,8 @@ use crate::drafts::Asked;
 use crate::drafts::Draft;
 use crate::words::DaysRun;
 use crate::words::DaysRunDisplay;
-use crate::words::KeyWords;
 use crate::words::KeyDisplay;
+use crate::words::KeyWords;
 use crate::words::Text;
 use crate::words::TextDisplay;
 use cif::content::Location;
@@ -28,9 +28,19 @@ use timetable::Timetable;
 
 // A record that no schedule has, for slots that hold nothing yet.
 pub fn empty_record() -> Record {
-    let filler = Location { tiploc: *b"       ", suffix: b' ', arrival: None, departure: None, platform: *b"   " };
+    let filler = Location {
+        tiploc: *b"       ",
+        suffix: b' ',
+        arrival: None,
+        departure: None,
+        platform: *b"   ",
+    };
     Record {
-        key: Key { uid: 0, from: 0, stp: Stp::Cancellation },
+        key: Key {
+            uid: 0,
+            from: 0,
+            stp: Stp::Cancellation,
+        },
         to: 0,
         days: [false; 7],
         train: *b"    ",
@@ -68,7 +78,12 @@ fn put_record(table: &mut Table, bag: &mut Bag, plain: Record) -> &'static str {
     }
 }
 
-fn do_asked(rt: &LibcRuntime, table: &mut Table, bag: &mut Bag, asked: Asked) -> Result<(), AnyError> {
+fn do_asked(
+    rt: &LibcRuntime,
+    table: &mut Table,
+    bag: &mut Bag,
+    asked: Asked,
+) -> Result<(), AnyError> {
     match asked {
         Asked::Put(plain) => {
             let result = put_record(table, bag, plain);
@@ -90,7 +105,12 @@ fn do_asked(rt: &LibcRuntime, table: &mut Table, bag: &mut Bag, asked: Asked) ->
 }
 
 // Does what the rows of a file ask.
-pub fn take_file(rt: &LibcRuntime, table: &mut Table, bag: &mut Bag, name: &str) -> Result<(), AnyError> {
+pub fn take_file(
+    rt: &LibcRuntime,
+    table: &mut Table,
+    bag: &mut Bag,
+    name: &str,
+) -> Result<(), AnyError> {
     let bytes = fs::read(rt, name)?;
     let mut rest = bytes.as_slice();
     let mut draft = Draft::None;
@@ -109,13 +129,33 @@ pub fn take_file(rt: &LibcRuntime, table: &mut Table, bag: &mut Bag, name: &str)
 fn next_key(key: Key) -> Option<Key> {
     let Key { uid, from, stp } = key;
     match stp {
-        Stp::Cancellation => Some(Key { uid, from, stp: Stp::ShortTerm }),
-        Stp::ShortTerm => Some(Key { uid, from, stp: Stp::Overlay }),
-        Stp::Overlay => Some(Key { uid, from, stp: Stp::Permanent }),
+        Stp::Cancellation => Some(Key {
+            uid,
+            from,
+            stp: Stp::ShortTerm,
+        }),
+        Stp::ShortTerm => Some(Key {
+            uid,
+            from,
+            stp: Stp::Overlay,
+        }),
+        Stp::Overlay => Some(Key {
+            uid,
+            from,
+            stp: Stp::Permanent,
+        }),
         Stp::Permanent => match from.checked_add(1) {
-            Some(from) => Some(Key { uid, from, stp: Stp::Cancellation }),
+            Some(from) => Some(Key {
+                uid,
+                from,
+                stp: Stp::Cancellation,
+            }),
             None => match uid.checked_add(1) {
-                Some(uid) => Some(Key { uid, from: 0, stp: Stp::Cancellation }),
+                Some(uid) => Some(Key {
+                    uid,
+                    from: 0,
+                    stp: Stp::Cancellation,
+                }),
                 None => None,
             },
         },
@@ -128,11 +168,19 @@ fn least<S: Timetable>(store: &mut S, probe: Key) -> Option<Record> {
     let Some(mut place) = Schedule::from_record(empty_record()) else {
         return None;
     };
-    if store.find(key, &mut place) { Some(place.to_record()) } else { None }
+    if store.find(key, &mut place) {
+        Some(place.to_record())
+    } else {
+        None
+    }
 }
 
 fn same_call(a: &Location, b: &Location) -> bool {
-    a.tiploc == b.tiploc && a.suffix == b.suffix && a.arrival == b.arrival && a.departure == b.departure && a.platform == b.platform
+    a.tiploc == b.tiploc
+        && a.suffix == b.suffix
+        && a.arrival == b.arrival
+        && a.departure == b.departure
+        && a.platform == b.platform
 }
 
 fn same_record(a: &Record, b: &Record) -> bool {
@@ -160,14 +208,21 @@ fn print_record(rt: &LibcRuntime, plain: &Record) -> Result<(), AnyError> {
     let operator = Text(&plain.operator);
     let destination = Text(&plain.destination);
     let calls = plain.count;
-    println!(rt, "{key} to day {to}, runs {days}, identity \"{train}\", operator \"{operator}\", destination \"{destination}\", calls {calls}")?;
+    println!(
+        rt,
+        "{key} to day {to}, runs {days}, identity \"{train}\", operator \"{operator}\", destination \"{destination}\", calls {calls}"
+    )?;
     Ok(())
 }
 
 // Prints what the table holds in key order, and says whether the bag holds the same.
 fn print_rows(rt: &LibcRuntime, table: &mut Table, bag: &mut Bag) -> Result<bool, AnyError> {
     let mut same = table.count() == bag.count();
-    let mut probe = Some(Key { uid: 0, from: 0, stp: Stp::Cancellation });
+    let mut probe = Some(Key {
+        uid: 0,
+        from: 0,
+        stp: Stp::Cancellation,
+    });
     for _ in 0..table.count() {
         let Some(from) = probe else {
             return Ok(false);
@@ -190,7 +245,11 @@ pub fn print_stores(rt: &LibcRuntime, table: &mut Table, bag: &mut Bag) -> Resul
     let held = table.count();
     let most = table.capacity();
     println!(rt, "table: {held} of {most}")?;
-    let verdict = if print_rows(rt, table, bag)? { "the same map" } else { "another map" };
+    let verdict = if print_rows(rt, table, bag)? {
+        "the same map"
+    } else {
+        "another map"
+    };
     let held = bag.count();
     let most = bag.capacity();
     println!(rt, "bag: {held} of {most}, {verdict}")?;

@@ -1,12 +1,12 @@
 // Reads files of rows in the CIF layout, and prints what they hold.
 use std::env;
+use std::error::AnyError;
 use stores::bag::Bag;
 use stores::table::Table;
-use std::error::AnyError;
 
 mod drafts;
-mod rows;
 mod keeping;
+mod rows;
 mod words;
 
 const USAGE: &str = "usage: departures rows FILE... | departures stores CAPACITY FILE...";
@@ -41,8 +41,12 @@ fn run_stores(rt: &LibcRuntime, capacity: &str, names: &[String]) -> Result<(), 
 
 fn run_task(rt: &LibcRuntime, words: &[String]) -> Result<(), AnyError> {
     match words {
-        [command, names @ ..] if command.as_str() == "rows" && !names.is_empty() => run_rows(rt, names),
-        [command, capacity, names @ ..] if command.as_str() == "stores" && !names.is_empty() => run_stores(rt, capacity.as_str(), names),
+        [command, names @ ..] if command.as_str() == "rows" && !names.is_empty() => run_rows(
+            rt,
+            names,
+        ),
+        [command, capacity, names @ ..] if command.as_str() == "stores" && !names.is_empty() =>
+            run_stores(rt, capacity.as_str(), names),
         _ => Err(USAGE.into()),
     }
 }

@@ -1,5 +1,4 @@
 // Rows one by one: what each holds, or why it is turned away.
-use files::split_row;
 use crate::words::Text;
 use crate::words::TextDisplay;
 use crate::words::Words;
@@ -9,6 +8,7 @@ use cif::content::Content;
 use cif::reading::read;
 use cif::refusal::Refusal;
 use cif::refusal::RowFault;
+use files::split_row;
 use std::error::AnyError;
 use std::fs;
 
@@ -39,7 +39,10 @@ pub struct Tally {
 
 impl Tally {
     pub fn new() -> Tally {
-        Tally { read: 0, refused: [0; 16] }
+        Tally {
+            read: 0,
+            refused: [0; 16],
+        }
     }
 
     fn note(&mut self, outcome: &Result<Content, RowFault>) {
@@ -70,7 +73,11 @@ impl Tally {
     }
 }
 
-fn print_row(rt: &LibcRuntime, number: u64, outcome: &Result<Content, RowFault>) -> Result<(), AnyError> {
+fn print_row(
+    rt: &LibcRuntime,
+    number: u64,
+    outcome: &Result<Content, RowFault>,
+) -> Result<(), AnyError> {
     match outcome {
         Ok(content) => {
             let words = Words(content);
@@ -82,7 +89,10 @@ fn print_row(rt: &LibcRuntime, number: u64, outcome: &Result<Content, RowFault>)
             let column = fault.fault.column;
             let identity = Text(&fault.identity);
             let words = meaning(refusal);
-            println!(rt, "row {number}: refused {told}, column {column}, identity \"{identity}\": {words}")?;
+            println!(
+                rt,
+                "row {number}: refused {told}, column {column}, identity \"{identity}\": {words}"
+            )?;
         }
     }
     Ok(())
@@ -114,7 +124,10 @@ pub fn print_total(rt: &LibcRuntime, files: u64, total: &Tally) -> Result<(), An
     let read = total.read;
     let refused = total.refused();
     let rows = read.saturating_add(refused);
-    println!(rt, "files {files}, rows {rows}: read {read}, refused {refused}")?;
+    println!(
+        rt,
+        "files {files}, rows {rows}: read {read}, refused {refused}"
+    )?;
     for refusal in REFUSALS {
         let number = refusal.number();
         let count = total.refused.get(number as usize).copied().unwrap_or(0);

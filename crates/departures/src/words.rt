@@ -99,7 +99,11 @@ pub impl Display for DaysRun<'_> as DaysRunDisplay {
                 none = false;
             }
         }
-        if none { f.write_str("on no day") } else { Ok(()) }
+        if none {
+            f.write_str("on no day")
+        } else {
+            Ok(())
+        }
     }
 }
 
@@ -144,7 +148,10 @@ impl Display for HeaderWords<'_> as HeaderDisplay {
             Coverage::Full => "full",
             Coverage::Update => "update",
         };
-        write!(f, "header: current reference \"{current}\", last reference \"{last}\", {coverage}")
+        write!(
+            f,
+            "header: current reference \"{current}\", last reference \"{last}\", {coverage}"
+        )
     }
 }
 
@@ -177,7 +184,13 @@ fn write_running<W: fmt::Write>(f: &mut Formatter<W>, running: &Running) -> fmt:
 }
 
 // A place, with the words of its public times.
-fn write_location<W: fmt::Write>(f: &mut Formatter<W>, role: &str, at: &Location, arrives: bool, departs: bool) -> fmt::Result {
+fn write_location<W: fmt::Write>(
+    f: &mut Formatter<W>,
+    role: &str,
+    at: &Location,
+    arrives: bool,
+    departs: bool,
+) -> fmt::Result {
     let tiploc = Text(&at.tiploc);
     let suffix = at.suffix as char;
     let platform = Text(&at.platform);

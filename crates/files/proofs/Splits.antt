@@ -20,9 +20,9 @@ module _ (cs : List ℕ) (i : ℕ) (l : i < length cs) where
   -- at any other byte it goes on
   pub row-goes-on : eqb (getD cs i 0) 10 ≡ false → take i cs ++ firstRow (drop i cs) ≡ take (i + 1) cs ++ firstRow (drop (i + 1) cs)
   row-goes-on h =
-    ap (λ (xs : List ℕ). take i cs ++ xs) (at-drop-more firstRow cs i 0 l ∙ cond-false (eqb (getD cs i 0) 10) _ _ h)
-    ∙ (sym (append-assoc (take i cs) (getD cs i 0 ∷ []) (firstRow (drop (i + 1) cs)))
-    ∙ ap (λ (xs : List ℕ). xs ++ firstRow (drop (i + 1) cs)) (sym (take-more cs i 0 l)))
+      ap (λ (xs : List ℕ). take i cs ++ xs) (at-drop-more firstRow cs i 0 l ∙ cond-false (eqb (getD cs i 0) 10) _ _ h)
+      ∙ (sym (append-assoc (take i cs) (getD cs i 0 ∷ []) (firstRow (drop (i + 1) cs)))
+      ∙ ap (λ (xs : List ℕ). xs ++ firstRow (drop (i + 1) cs)) (sym (take-more cs i 0 l)))
 
   pub rest-goes-on : eqb (getD cs i 0) 10 ≡ false → otherRows (drop i cs) ≡ otherRows (drop (i + 1) cs)
   rest-goes-on h = at-drop-more otherRows cs i 0 l ∙ cond-false (eqb (getD cs i 0) 10) _ _ h

@@ -55,13 +55,14 @@ text-width n a cs xs h = ⊎-elim (λ t. wide t) (λ f. absurd (none f)) (cases-
   where
     wide : (eqb (length cs) n && every (allows a) cs) ≡ true → length xs ≡ n
     wide t =
-      let e : _≡_ {A = Option (List ℕ)} (Some xs) (Some cs) = h ∙ cond-true _ _ _ t in
-      let same : xs ≡ cs = cc in
-      ap length same ∙ eqb-true (length cs) n (and-parts (eqb (length cs) n) (every (allows a) cs) t .0)
+        let e : _≡_ {A = Option (List ℕ)} (Some xs) (Some cs) = h ∙ cond-true _ _ _ t in
+        let same : xs ≡ cs = cc in
+        ap length same ∙ eqb-true (length cs) n (and-parts (eqb (length cs) n) (every (allows a) cs) t .0)
+
     none : (eqb (length cs) n && every (allows a) cs) ≡ false → ⊥
     none f =
-      let e : _≡_ {A = Option (List ℕ)} (Some xs) None = h ∙ cond-false _ _ _ f in
-      let z : _≡_ {A = ℕ} 0 1 = cc in omega arith
+        let e : _≡_ {A = Option (List ℕ)} (Some xs) None = h ∙ cond-false _ _ _ f in
+        let z : _≡_ {A = ℕ} 0 1 = cc in omega arith
 
 -- flags that were set day by day are those that the text has
 pub days-made : (days : List Bool) (flags : List ℕ) → length days ≡ 7 → length flags ≡ 7 → ((k : ℕ) → k < 7 → getD days k false ≡ eqb (getD flags k 0) 49) → days ≡ map (λ c. eqb c 49) flags

@@ -44,6 +44,7 @@ led-more c cs n h d = record { within = let w = d .within in omega arith; names 
     names : (k : ℕ) → k < suc n → isName (getD (c ∷ cs) k 0) ≡ true
     names zero l = h
     names (suc k) l = d .names k (omega arith)
+
     blanks : (k : ℕ) → suc n ≤ k → k < length (c ∷ cs) → getD (c ∷ cs) k 0 ≡ 32
     blanks zero m l = absurd (omega arith)
     blanks (suc k) m l = d .blanks k (omega arith) (omega arith)
@@ -53,9 +54,9 @@ unfolding lead
 led [] h = led-none [] h
 led (c ∷ cs) h =
     ⊎-elim
-      (λ t. rw t (led-more c cs (lead cs) t (led cs (sym (cond-true (isName c) _ _ t) ∙ h))))
-      (λ f. rw f (led-none (c ∷ cs) (sym (cond-false (isName c) _ _ f) ∙ h)))
-      (cases-bool (isName c))
+    (λ t. rw t (led-more c cs (lead cs) t (led cs (sym (cond-true (isName c) _ _ t) ∙ h))))
+    (λ f. rw f (led-none (c ∷ cs) (sym (cond-false (isName c) _ _ f) ∙ h)))
+    (cases-bool (isName c))
 
 led-back : (cs : List ℕ) (n : ℕ) → Led cs n → namesThenBlanks cs ≡ true
 led-back [] n d = refl
@@ -66,10 +67,11 @@ led-back (c ∷ cs) zero d =
 led-back (c ∷ cs) (suc n) d =
     cond-true (isName c) _ _ (d .names 0 (omega arith))
     ∙ led-back cs n
-      (record {
-          within = let w = d .within in omega arith;
-          names = λ k l. d .names (suc k) (omega arith);
-          blanks = λ k m l. d .blanks (suc k) (omega arith) (omega arith) })
+    (record {
+      within = let w = d .within in omega arith;
+      names = λ k l. d .names (suc k) (omega arith);
+      blanks = λ k m l. d .blanks (suc k) (omega arith) (omega arith);
+    })
 
 lead-some : (cs : List ℕ) → isName (getD cs 0 0) ≡ true → 1 ≤ lead cs
 unfolding lead
@@ -81,22 +83,26 @@ by-places = record { has = has; suffices = suffices }
   where
     has : (cs : List ℕ) → isTiploc cs ≡ true → (n : ℕ) × Named cs n
     has cs h =
-      let a = and-parts (eqb (length cs) 7) _ h in
-      let b = and-parts (isName (getD cs 0 0)) _ (a .1) in
-      let seven = eqb-true (length cs) 7 (a .0) in
-      let d = led cs (b .1) in
-      let w = d .within in
-      (lead cs, record {
-          seven = seven;
-          some = lead-some cs (b .0);
-          within = omega arith;
-          names = d .names;
-          blanks = λ k m l. d .blanks k m (omega arith) })
+        let a = and-parts (eqb (length cs) 7) _ h in
+        let b = and-parts (isName (getD cs 0 0)) _ (a .1) in
+        let seven = eqb-true (length cs) 7 (a .0) in
+        let d = led cs (b .1) in
+        let w = d .within in (
+          lead cs,
+          record {
+            seven = seven;
+            some = lead-some cs (b .0);
+            within = omega arith;
+            names = d .names;
+            blanks = λ k m l. d .blanks k m (omega arith);
+          },
+        )
+
     suffices : (cs : List ℕ) (n : ℕ) → Named cs n → isTiploc cs ≡ true
     suffices cs n d =
-      let s = d .seven in
-      let w = d .within in
-      let long : eqb (length cs) 7 ≡ true = ap (λ (m : ℕ). eqb m 7) s in
-      let first : isName (getD cs 0 0) ≡ true = d .names 0 (d .some) in
-      let back : namesThenBlanks cs ≡ true = led-back cs n (record { within = omega arith; names = d .names; blanks = λ k m l. d .blanks k m (omega arith) }) in
-      rw (long, first, back) refl
+        let s = d .seven in
+        let w = d .within in
+        let long : eqb (length cs) 7 ≡ true = ap (λ (m : ℕ). eqb m 7) s in
+        let first : isName (getD cs 0 0) ≡ true = d .names 0 (d .some) in
+        let back : namesThenBlanks cs ≡ true = led-back cs n (record { within = omega arith; names = d .names; blanks = λ k m l. d .blanks k m (omega arith) }) in
+        rw (long, first, back) refl

@@ -26,7 +26,7 @@ pub record Tiploc-by-places : Type 0 where
 -- the worked cases
 pub record Worked : Type 0 where
   pub dates : map dateIn (codes "600101" ∷ codes "240229" ∷ codes "591231" ∷ codes "230229" ∷ codes "000229" ∷ [])
-    ≡ (Some (0, 4) ∷ Some (23435, 3) ∷ Some (36524, 2) ∷ None ∷ Some (14669, 1) ∷ [])
+      ≡ (Some (0, 4) ∷ Some (23435, 3) ∷ Some (36524, 2) ∷ None ∷ Some (14669, 1) ∷ [])
   pub uids : map uidIn (codes "C12345" ∷ codes "Z99999" ∷ []) ≡ (Some 212345 ∷ Some 2599999 ∷ [])
   pub times : map timeIn (codes "0000" ∷ codes "0001" ∷ codes "2359" ∷ codes "2400" ∷ codes "1260" ∷ [])
-    ≡ (Some None ∷ Some (Some 1) ∷ Some (Some 1439) ∷ None ∷ None ∷ [])
+      ≡ (Some None ∷ Some (Some 1) ∷ Some (Some 1439) ∷ None ∷ None ∷ [])

@@ -17,6 +17,6 @@ set-same (y ∷ ys) (suc i) x l e = ap (λ zs. y ∷ zs) (set-same ys i x (omega
 pub rest-swap : {X : Type 0} (xs : List X) (n p : ℕ) (x : X) → p < n → n ≤ length xs → x ≡ getD xs (n - 1) x → drop (n - 1) (set xs p x) ≡ drop (n - 1) xs
 rest-swap xs n p x l m e =
     ⊎-elim
-      (λ at. ap (λ i. drop (n - 1) (set xs i x)) at ∙ ap (drop (n - 1)) (set-same xs (n - 1) x (omega arith) e))
-      (λ other. drop-set-lt (n - 1) xs p x (omega arith))
-      (cases-eq p (n - 1))
+    (λ at. ap (λ i. drop (n - 1) (set xs i x)) at ∙ ap (drop (n - 1)) (set-same xs (n - 1) x (omega arith) e))
+    (λ other. drop-set-lt (n - 1) xs p x (omega arith))
+    (cases-eq p (n - 1))

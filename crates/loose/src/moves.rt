@@ -9,7 +9,6 @@ ghost use Rattle.std.specs.Options.{Cases};
 ghost use Rattle.maps.specs.Maps.{ceiling, gathered};
 ghost use Rattle.maps.specs.Places.{Passed, Found};
 ghost use Rattle.ordered.specs.Tables.{items, RestKept};
-
 use crate::edits::push_at;
 use crate::edits::replace_at;
 use crate::edits::swap_out;

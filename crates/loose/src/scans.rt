@@ -6,7 +6,6 @@ ghost use lib.ListN.{length, take};
 ghost use Rattle.std.specs.Options.{Cases};
 ghost use Rattle.maps.specs.Maps.{lower, ceiling, gathered};
 ghost use Rattle.maps.specs.Places.{Passed, Found};
-
 use ordered::keys::KeyOrder;
 use ordered::keys::Keyed;
 

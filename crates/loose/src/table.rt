@@ -7,7 +7,6 @@ ghost use lib.ListN.{length};
 ghost use Rattle.std.specs.Results.{isOk};
 ghost use Rattle.maps.specs.Maps.{lookup, ceiling, gathered};
 ghost use Rattle.ordered.specs.Tables.{items, room, Apart, Put, Removed, RestKept};
-
 use crate::loose::Loose;
 use crate::moves::at;
 use crate::moves::lowest_from;
@@ -27,7 +26,9 @@ impl<E> Loose<'_, E> {
         ensures fits { λ r. ⌜ r .inner .len ≤ room (r .inner) ⌝ }
         ensures room { λ r. ⌜ room (r .inner) ≡ length (now (slots .entry)) ⌝ }
     {
-        Loose { inner: Slots { slots, len: 0 } }
+        Loose {
+            inner: Slots { slots, len: 0 },
+        }
     }
 
     pub fn len(&mut self) -> usize

@@ -61,11 +61,11 @@ module _ {E K : Type 0} (before : K → K → Bool) (key : E → K) (lawful : La
 
   pub taken-out : (u : Slots E) (k : K) (i : ℕ) → Hit before key (items s) k i → items u ≡ removed (items m) i → Removed before key (items s) (items u) k true
   taken-out u k i h e =
-    since u (λ xs. removed xs i) (λ (ys : List E). Removed before key (items s) ys k true) e (removed-hit before key lawful (items s) k i h)
+      since u (λ xs. removed xs i) (λ (ys : List E). Removed before key (items s) ys k true) e (removed-hit before key lawful (items s) k i h)
 
   pub not-there : (k : K) (i : ℕ) → ascending before key (items s) ≡ true → Miss before key (items s) k i → Removed before key (items s) (items m) k false
   not-there k i up h =
-    subst (λ (ys : List E). Removed before key (items s) ys k false) (sym (ap items same)) (removed-miss before key lawful (items s) k i up h)
+      subst (λ (ys : List E). Removed before key (items s) ys k false) (sym (ap items same)) (removed-miss before key lawful (items s) k i up h)
 
 -- what was put or taken out leaves the elements in order
 module _ {E K : Type 0} (before : K → K → Bool) (key : E → K) (lawful : Lawful before) (xs ys : List E) (up : ascending before key xs ≡ true) where

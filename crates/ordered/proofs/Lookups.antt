@@ -33,7 +33,7 @@ module _ {E K : Type 0} (before : K → K → Bool) (key : E → K) (lawful : La
         let long = length-take-le (s .len) (now (s .slots)) fits in
         ap (λ x. Some (key x)) (read i r v)
         ∙ sym (ceiling-here before key lawful (items s) i k r (omega arith) (front i (omega arith) u)
-            (ap (λ x. before (key x) k) (getD-take (s .len) (now (s .slots)) i r (omega arith)) ∙ o i r (omega arith) (omega arith)))
+        (ap (λ x. before (key x) k) (getD-take (s .len) (now (s .slots)) i r (omega arith)) ∙ o i r (omega arith) (omega arith)))
 
     pub none-is : i ≤ s .len → t .len ≤ i → None ≡ ceiling before key (items s) k
     none-is w l =

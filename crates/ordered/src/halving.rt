@@ -4,7 +4,6 @@ ghost use mathlib.Core.Bool.{Bool, true, false};
 ghost use Prim.Native.Nat.{ℕ, _≤_};
 ghost use lib.ListN.{length};
 ghost use Rattle.maps.specs.Places.{Ascends, Under, Over};
-
 use crate::keys::KeyOrder;
 use crate::keys::Keyed;
 

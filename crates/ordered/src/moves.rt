@@ -10,7 +10,6 @@ ghost use Rattle.std.specs.shelf.Lists.{inserted, removed};
 ghost use Rattle.maps.specs.Maps.{ascending};
 ghost use Rattle.maps.specs.Places.{Under, Over, Hit, Miss};
 ghost use Rattle.ordered.specs.Tables.{items, room, RestKept};
-
 use crate::halving::lower_bound;
 use crate::keys::KeyOrder;
 use crate::keys::Keyed;

@@ -9,7 +9,6 @@ ghost use Rattle.std.specs.Results.{Cases, isOk};
 ghost use Rattle.maps.specs.Maps.{lookup, ceiling};
 ghost use Rattle.maps.specs.Places.{Hit, Miss};
 ghost use Rattle.ordered.specs.Tables.{items, room, InOrder, Put, Removed, RestKept};
-
 use crate::halving::lower_bound;
 use crate::keys::KeyOrder;
 use crate::keys::Keyed;
@@ -30,7 +29,9 @@ impl<E> Ordered<'_, E> {
         ensures fits { λ r. ⌜ r .inner .len ≤ room (r .inner) ⌝ }
         ensures room { λ r. ⌜ room (r .inner) ≡ length (now (slots .entry)) ⌝ }
     {
-        Ordered { inner: Slots { slots, len: 0 } }
+        Ordered {
+            inner: Slots { slots, len: 0 },
+        }
     }
 
     pub fn len(&mut self) -> usize

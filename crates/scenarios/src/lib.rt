@@ -7,7 +7,13 @@ use schedule::schedule::Schedule;
 
 // A schedule's record with no calls.
 pub fn record(uid: u32, from: u16, stp: Stp, to: u16) -> Record {
-    let filler = Location { tiploc: *b"       ", suffix: b' ', arrival: None, departure: None, platform: *b"   " };
+    let filler = Location {
+        tiploc: *b"       ",
+        suffix: b' ',
+        arrival: None,
+        departure: None,
+        platform: *b"   ",
+    };
     Record {
         key: Key { uid, from, stp },
         to,
@@ -39,7 +45,11 @@ mod tests {
     use timetable::Timetable;
 
     fn key(uid: u32, day: u16) -> Key {
-        Key { uid, from: day, stp: Stp::Permanent }
+        Key {
+            uid,
+            from: day,
+            stp: Stp::Permanent,
+        }
     }
 
     // A store of two slots, filled, refused, emptied by one and filled again.

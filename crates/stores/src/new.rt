@@ -5,7 +5,6 @@ ghost use Prim.Native.Nat.{min};
 ghost use lib.ListN.{length};
 ghost use Rattle.ordered.specs.Tables.{room};
 ghost use Rattle.stores.specs.Tables.{inOrder, inAnyOrder};
-
 use crate::bag::Bag;
 use crate::table::Table;
 use loose::loose::Loose;

@@ -7,7 +7,6 @@ ghost use Rattle.std.specs.Results.{isOk};
 ghost use Rattle.ordered.specs.Tables.{room, RestKept};
 ghost use Rattle.timetable.specs.Timetables.{Puts, Removes};
 ghost use Rattle.stores.specs.Tables.{inOrder};
-
 use crate::table::Table;
 use ordered::table::Full;
 use schedule::key::Key;

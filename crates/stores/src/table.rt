@@ -5,7 +5,6 @@ ghost use Prim.Native.Nat.{_≤_};
 ghost use Rattle.ordered.specs.Tables.{room};
 ghost use Rattle.schedule.specs.Records.{everySchedule};
 ghost use Rattle.stores.specs.Tables.{inOrder, rises};
-
 use ordered::ordered::Ordered;
 use schedule::record::Record;
 

@@ -42,9 +42,9 @@ keep = record {
 has-cases : (y : Record) (ys : List Record) (k : Key) (P : Type 0) → Has (y ∷ ys) k → (keyOf y ≡ k → P) → (Has ys k → P) → P
 has-cases y ys k P h here later =
     ⊎-elim
-      (λ t. here (same-is keyBefore keyOf key-lawful (keyOf y) k t))
-      (λ f. later (sym (ap isSome (cond-false (same keyBefore (keyOf y) k) (Some y) (scheduleOf ys k) f)) ∙ h))
-      (cases-bool (same keyBefore (keyOf y) k))
+    (λ t. here (same-is keyBefore keyOf key-lawful (keyOf y) k t))
+    (λ f. later (sym (ap isSome (cond-false (same keyBefore (keyOf y) k) (Some y) (scheduleOf ys k) f)) ∙ h))
+    (cases-bool (same keyBefore (keyOf y) k))
 
 has-none : (k : Key) → Has [] k → ⊥
 has-none k h = true≢false (sym h)
@@ -55,9 +55,9 @@ has-first y ys = ap isSome (cond-true (same keyBefore (keyOf y) (keyOf y)) (Some
 has-later : (y : Record) (ys : List Record) (k : Key) → Has ys k → Has (y ∷ ys) k
 has-later y ys k h =
     ⊎-elim
-      (λ t. ap isSome (cond-true (same keyBefore (keyOf y) k) (Some y) (scheduleOf ys k) t))
-      (λ f. ap isSome (cond-false (same keyBefore (keyOf y) k) (Some y) (scheduleOf ys k) f) ∙ h)
-      (cases-bool (same keyBefore (keyOf y) k))
+    (λ t. ap isSome (cond-true (same keyBefore (keyOf y) k) (Some y) (scheduleOf ys k) t))
+    (λ f. ap isSome (cond-false (same keyBefore (keyOf y) k) (Some y) (scheduleOf ys k) f) ∙ h)
+    (cases-bool (same keyBefore (keyOf y) k))
 
 -- keys of the rest come after the first
 after-first : (k : Key) (ys : List Record) (q : Key) → after keyBefore keyOf k ys ≡ true → Has ys q → keyBefore k q ≡ true
@@ -79,12 +79,13 @@ Least m probe o =
 more : (y : Record) (ys : List Record) (probe : Key) (o : Option Key) → keyBefore (keyOf y) probe ≡ true → Least ys probe o → Least (y ∷ ys) probe o
 unfolding Least
 more y ys probe None t h = λ k there. has-cases y ys k (keyBefore k probe ≡ true) there (λ e. subst (λ (c : Key). keyBefore c probe ≡ true) e t) (λ l. h k l)
-more y ys probe (Some least) t h =
-    ( has-later y ys least (h .0)
-    , h .1
-    , λ k there past. has-cases y ys k (keyBefore k least ≡ false) there
-        (λ e. absurd (both-ways (keyBefore k probe) past (subst (λ (c : Key). keyBefore c probe ≡ true) e t)))
-        (λ l. h .2 k l past) )
+more y ys probe (Some least) t h = (
+  has-later y ys least (h .0),
+  h .1,
+  λ k there past. has-cases y ys k (keyBefore k least ≡ false) there
+      (λ e. absurd (both-ways (keyBefore k probe) past (subst (λ (c : Key). keyBefore c probe ≡ true) e t)))
+      (λ l. h .2 k l past),
+)
 
 least-rising : (m : List Record) (probe : Key) → ascending keyBefore keyOf m ≡ true → Least m probe (notBefore m probe)
 unfolding Least
@@ -92,14 +93,15 @@ least-rising [] probe up = λ k h. absurd (has-none k h)
 least-rising (y ∷ ys) probe up =
     let p = and-parts (after keyBefore keyOf (keyOf y) ys) (ascending keyBefore keyOf ys) up in
     ⊎-elim
-      (λ t. subst (λ (o : Option Key). Least (y ∷ ys) probe o) (sym (cond-true (keyBefore (keyOf y) probe) (notBefore ys probe) (Some (keyOf y)) t)) (more y ys probe (notBefore ys probe) t (least-rising ys probe (p .1))))
-      (λ f. subst (λ (o : Option Key). Least (y ∷ ys) probe o) (sym (cond-false (keyBefore (keyOf y) probe) (notBefore ys probe) (Some (keyOf y)) f))
-        ( has-first y ys
-        , f
-        , λ k there past. has-cases y ys k (keyBefore k (keyOf y) ≡ false) there
-            (λ e. subst (λ (c : Key). keyBefore c (keyOf y) ≡ false) e (key-lawful .irreflexive (keyOf y)))
-            (λ l. not-before-both (keyOf y) k (after-first (keyOf y) ys k (p .0) l)) ))
-      (cases-bool (keyBefore (keyOf y) probe))
+    (λ t. subst (λ (o : Option Key). Least (y ∷ ys) probe o) (sym (cond-true (keyBefore (keyOf y) probe) (notBefore ys probe) (Some (keyOf y)) t)) (more y ys probe (notBefore ys probe) t (least-rising ys probe (p .1))))
+    (λ f. subst (λ (o : Option Key). Least (y ∷ ys) probe o) (sym (cond-false (keyBefore (keyOf y) probe) (notBefore ys probe) (Some (keyOf y)) f)) (
+      has-first y ys,
+      f,
+      λ k there past. has-cases y ys k (keyBefore k (keyOf y) ≡ false) there
+          (λ e. subst (λ (c : Key). keyBefore c (keyOf y) ≡ false) e (key-lawful .irreflexive (keyOf y)))
+          (λ l. not-before-both (keyOf y) k (after-first (keyOf y) ys k (p .0) l)),
+    ))
+    (cases-bool (keyBefore (keyOf y) probe))
 
 pub least : Not-before-is-least
 unfolding Least

@@ -29,9 +29,9 @@ found-valid [] k r v h = let z : _≡_ {A = ℕ} 0 1 = cc in absurd (omega arith
 found-valid (y ∷ ys) k r v h =
     let parts = and-parts (isSchedule y) (everySchedule ys) v in
     cond-both (same keyBefore (keyOf y) k) (Some y) (scheduleOf ys k) (λ (o : Option Record). Some r ≡ o → isSchedule r ≡ true)
-      (λ _ e. let here : r ≡ y = cc in ap isSchedule here ∙ parts .0)
-      (λ _ e. found-valid ys k r (parts .1) e)
-      h
+    (λ _ e. let here : r ≡ y = cc in ap isSchedule here ∙ parts .0)
+    (λ _ e. found-valid ys k r (parts .1) e)
+    h
 
 -- a map with one schedule more
 pub valid-with : (m : List Record) (x : Record) → everySchedule m ≡ true → isSchedule x ≡ true → everySchedule (withSchedule m x) ≡ true
@@ -39,10 +39,10 @@ valid-with [] x v w = and-from (isSchedule x) true w refl
 valid-with (y ∷ ys) x v w =
     let parts = and-parts (isSchedule y) (everySchedule ys) v in
     cond-both (keyBefore (keyOf y) (keyOf x)) _ _ (λ (rs : List Record). everySchedule rs ≡ true)
-      (λ _. and-from (isSchedule y) _ (parts .0) (valid-with ys x (parts .1) w))
-      (λ _. cond-both (keyBefore (keyOf x) (keyOf y)) _ _ (λ (rs : List Record). everySchedule rs ≡ true)
-        (λ _. and-from (isSchedule x) _ w v)
-        (λ _. and-from (isSchedule x) _ w (parts .1)))
+    (λ _. and-from (isSchedule y) _ (parts .0) (valid-with ys x (parts .1) w))
+    (λ _. cond-both (keyBefore (keyOf x) (keyOf y)) _ _ (λ (rs : List Record). everySchedule rs ≡ true)
+    (λ _. and-from (isSchedule x) _ w v)
+    (λ _. and-from (isSchedule x) _ w (parts .1)))
 
 -- and with one key less
 pub valid-without : (m : List Record) (k : Key) → everySchedule m ≡ true → everySchedule (withoutKey m k) ≡ true
@@ -50,8 +50,8 @@ valid-without [] k v = refl
 valid-without (y ∷ ys) k v =
     let parts = and-parts (isSchedule y) (everySchedule ys) v in
     cond-both (keyBefore (keyOf y) k) _ _ (λ (rs : List Record). everySchedule rs ≡ true)
-      (λ _. and-from (isSchedule y) _ (parts .0) (valid-without ys k (parts .1)))
-      (λ _. cond-both (keyBefore k (keyOf y)) _ _ (λ (rs : List Record). everySchedule rs ≡ true) (λ _. v) (λ _. parts .1))
+    (λ _. and-from (isSchedule y) _ (parts .0) (valid-without ys k (parts .1)))
+    (λ _. cond-both (keyBefore k (keyOf y)) _ _ (λ (rs : List Record). everySchedule rs ≡ true) (λ _. v) (λ _. parts .1))
 
 pub puts-valid : (m n : List Record) (c : ℕ) (x : Record) (r : Bool) → Puts m n c x r → everySchedule m ≡ true → isSchedule x ≡ true → everySchedule n ≡ true
 puts-valid m n c x r h v w = ap everySchedule (h .gives) ∙ either r

@@ -32,8 +32,8 @@ abbrev pub Not-before-is-least : Type 0
 Not-before-is-least =
     (m : List Record) (probe : Key) → IsMap m
     → Cases (notBefore m probe)
-      ((k : Key) → Has m k → keyBefore k probe ≡ true)
-      (λ least. Has m least × (keyBefore least probe ≡ false) × ((k : Key) → Has m k → keyBefore k probe ≡ false → keyBefore k least ≡ false))
+    ((k : Key) → Has m k → keyBefore k probe ≡ true)
+    (λ least. Has m least × (keyBefore least probe ≡ false) × ((k : Key) → Has m k → keyBefore k probe ≡ false → keyBefore k least ≡ false))
 
 -- the map with a record's schedule set, if it is one
 abbrev pub setIfSchedule : List Record → Record → List Record

@@ -3,7 +3,6 @@ ghost use mathlib.Core.Path.{_≡_};
 ghost use mathlib.Core.Bool.{true};
 ghost use Rattle.std.specs.Results.{isOk};
 ghost use Rattle.timetable.specs.Laws.{Lookups-decide, Others-keep, Not-before-is-least, setIfSchedule, setAll};
-
 use crate::Store;
 use crate::Timetable;
 use ordered::table::Full;

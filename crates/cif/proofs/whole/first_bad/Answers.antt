@@ -10,9 +10,10 @@ returns-then-not-is-printable c =
     sym (bad-here (c .loop-b .column) (c .loop-b .b-index) (c .args .bytes .now) (c .loop-b-test .taken) (c .if-not-is-printable .ensures tt)) ∙ c .loop-b .inv .0
 
 pub loop-b-again : need.loop-b-again
-loop-b-again c =
-    ( sym (bad-more (c .loop-b .column) (c .loop-b .b-index) (c .args .bytes .now) (c .loop-b-test .taken) (c .if-not-is-printable .ensures tt)) ∙ c .loop-b .inv .0
-    , omega arith )
+loop-b-again c = (
+  sym (bad-more (c .loop-b .column) (c .loop-b .b-index) (c .args .bytes .now) (c .loop-b-test .taken) (c .if-not-is-printable .ensures tt)) ∙ c .loop-b .inv .0,
+  omega arith,
+)
 
 pub returns : need.returns
 returns c = sym (at-drop-all (badFrom (c .loop-b .column)) (c .args .bytes .now) (c .loop-b .b-index) (c .loop-b-test .left)) ∙ c .loop-b .inv .0

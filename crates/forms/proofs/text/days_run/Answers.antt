@@ -16,7 +16,7 @@ returns c =
     let flags = c .in-Continue-flags .flags in
     let read = c .in-Continue-flags .ensures tt in
     ap (λ (days : List Bool). Some days)
-      (days-made (c .loop-day .days) (c .in-Continue-flags .flags) (c .loop-day .inv .0)
-        (text-width 7 Flags (c .args .bytes .now) (c .in-Continue-flags .flags) read)
-        (λ k lt. c .loop-day .inv .1 k (omega arith)))
+    (days-made (c .loop-day .days) (c .in-Continue-flags .flags) (c .loop-day .inv .0)
+    (text-width 7 Flags (c .args .bytes .now) (c .in-Continue-flags .flags) read)
+    (λ k lt. c .loop-day .inv .1 k (omega arith)))
     ∙ ap (λ (o : Option (List ℕ)). andThen o (λ fs. Some (map (λ b. eqb b 49) fs))) read

@@ -14,10 +14,11 @@ loop-low-again-then-is-before g c = (
   omega arith,
   c .loop-low .inv .1,
   c .loop-low .inv .2,
-  λ fits rising.
-    ( under-more (g .Key·KeyOrder .before) (g .E·Keyed .keyed) (lawful g) (c .args .slots .now) (c .args .len) fits rising (c .args .key) _ (omega arith) (c .index-slots-mid .result)
-        (ap (λ x. g .Key·KeyOrder .before x (c .args .key)) (sym (c .key .ensures)) ∙ sym (c .is-before .ensures) ∙ c .if-is-before .taken)
-    , c .loop-low .inv .3 fits rising .1 ),
+  λ fits rising. (
+    under-more (g .Key·KeyOrder .before) (g .E·Keyed .keyed) (lawful g) (c .args .slots .now) (c .args .len) fits rising (c .args .key) _ (omega arith) (c .index-slots-mid .result)
+        (ap (λ x. g .Key·KeyOrder .before x (c .args .key)) (sym (c .key .ensures)) ∙ sym (c .is-before .ensures) ∙ c .if-is-before .taken),
+    c .loop-low .inv .3 fits rising .1,
+  ),
 )
 
 pub loop-low-again : need.loop-low-again
@@ -25,8 +26,9 @@ loop-low-again g c = (
   omega arith,
   omega arith,
   omega arith,
-  λ fits rising.
-    ( c .loop-low .inv .3 fits rising .0
-    , over-less (g .Key·KeyOrder .before) (g .E·Keyed .keyed) (lawful g) (c .args .slots .now) (c .args .len) fits rising (c .args .key) _ (omega arith) (c .index-slots-mid .result)
-        (ap (λ x. g .Key·KeyOrder .before x (c .args .key)) (sym (c .key .ensures)) ∙ sym (c .is-before .ensures) ∙ c .if-is-before .left) ),
+  λ fits rising. (
+    c .loop-low .inv .3 fits rising .0,
+    over-less (g .Key·KeyOrder .before) (g .E·Keyed .keyed) (lawful g) (c .args .slots .now) (c .args .len) fits rising (c .args .key) _ (omega arith) (c .index-slots-mid .result)
+        (ap (λ x. g .Key·KeyOrder .before x (c .args .key)) (sym (c .key .ensures)) ∙ sym (c .is-before .ensures) ∙ c .if-is-before .left),
+  ),
 )

@@ -14,9 +14,10 @@ one-more start now after rs i d l h e = e ∙ ap (λ m. setIfSchedule m (getD rs
 
 pub loop-plain-again : need.loop-plain-again
 loop-plain-again g c =
-    let h = c .in-Continue-put-one .ensures tt in
-    ( one-more (g .S·Timetable .map (c .args .store .now)) (g .S·Timetable .map (c .loop-plain .store)) (g .S·Timetable .map (c .put-one .last .store)) (c .args .records .now) (c .loop-plain .plain-index) _ (omega arith) (c .loop-plain .inv .0) (h .map refl)
-    , h .capacity ∙ c .loop-plain .inv .1 )
+    let h = c .in-Continue-put-one .ensures tt in (
+      one-more (g .S·Timetable .map (c .args .store .now)) (g .S·Timetable .map (c .loop-plain .store)) (g .S·Timetable .map (c .put-one .last .store)) (c .args .records .now) (c .loop-plain .plain-index) _ (omega arith) (c .loop-plain .inv .0) (h .map refl),
+      h .capacity ∙ c .loop-plain .inv .1,
+    )
 
 pub returns : need.returns
 returns g c = record {

@@ -11,8 +11,8 @@ lawful g = record { irreflexive = g .Key·KeyOrder·met .irreflexive; transitive
 pub returns-then-place-self : need.returns-then-place-self
 returns-then-place-self g c = record {
   value = λ ok.
-    ap (λ k. Some k) (c .key .ensures)
-    ∙ next-is (g .Key·KeyOrder .before) (g .E·Keyed .keyed) (lawful g) (c .args .self .now .inner) (c .seek-place .last .self) (c .seek-place .ensures .same) (ok .0) (c .seek-place .result) (c .args .probe) (c .seek-place .ensures .found (ok .1) .0) (c .at-there .result) (c .if-place-self .taken) (c .seek-place .ensures .found (ok .1) .1) (c .at-there .ensures .value);
+      ap (λ k. Some k) (c .key .ensures)
+      ∙ next-is (g .Key·KeyOrder .before) (g .E·Keyed .keyed) (lawful g) (c .args .self .now .inner) (c .seek-place .last .self) (c .seek-place .ensures .same) (ok .0) (c .seek-place .result) (c .args .probe) (c .seek-place .ensures .found (ok .1) .0) (c .at-there .result) (c .if-place-self .taken) (c .seek-place .ensures .found (ok .1) .1) (c .at-there .ensures .value);
   same = ap (λ x. record { inner = x }) (c .at-there .ensures .same ∙ c .seek-place .ensures .same);
 }
 

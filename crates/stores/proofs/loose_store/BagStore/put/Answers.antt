@@ -9,12 +9,19 @@ pub ghost-self : need.ghost-self
 ghost-self c =
     let kept = c .put .ensures .kept (c .args .self .now .fits, c .args .self .now .apart) in
     let same-slots = c .put .ensures .rest .slots in
-    let small = c .args .self .now .small in
-    ( kept .0
-    , ( (omega arith)
-      , ( kept .1
-        , ( puts-valid (mapOf (inAnyOrder (c .args .self .now .rows))) (mapOf (inAnyOrder (c .put .last .self))) _ _ _ (puts-equal (mapOf (inAnyOrder (c .args .self .now .rows))) (mapOf (inAnyOrder (c .put .last .self))) _ _ _ _ (c .to-record .ensures) (c .put .ensures .put (c .args .self .now .fits, c .args .self .now .apart))) (c .args .self .now .valid) (c .args .schedule .valid)
-          , tt ))))
+    let small = c .args .self .now .small in (
+      kept .0,
+      (
+        (omega arith),
+        (
+          kept .1,
+          (
+            puts-valid (mapOf (inAnyOrder (c .args .self .now .rows))) (mapOf (inAnyOrder (c .put .last .self))) _ _ _ (puts-equal (mapOf (inAnyOrder (c .args .self .now .rows))) (mapOf (inAnyOrder (c .put .last .self))) _ _ _ _ (c .to-record .ensures) (c .put .ensures .put (c .args .self .now .fits, c .args .self .now .apart))) (c .args .self .now .valid) (c .args .schedule .valid),
+            tt,
+          ),
+        ),
+      ),
+    )
 
 pub returns : need.returns
 returns c =

@@ -9,12 +9,19 @@ pub ghost-self : need.ghost-self
 ghost-self c =
     let kept = c .remove .ensures .kept (c .args .self .now .fits, c .args .self .now .apart) in
     let same-slots = c .remove .ensures .rest .slots in
-    let small = c .args .self .now .small in
-    ( kept .0
-    , ( (omega arith)
-      , ( kept .1
-        , ( removes-valid (mapOf (inAnyOrder (c .args .self .now .rows))) (mapOf (inAnyOrder (c .remove .last .self))) _ _ (c .remove .ensures .removed (c .args .self .now .fits, c .args .self .now .apart)) (c .args .self .now .valid)
-          , tt ))))
+    let small = c .args .self .now .small in (
+      kept .0,
+      (
+        (omega arith),
+        (
+          kept .1,
+          (
+            removes-valid (mapOf (inAnyOrder (c .args .self .now .rows))) (mapOf (inAnyOrder (c .remove .last .self))) _ _ (c .remove .ensures .removed (c .args .self .now .fits, c .args .self .now .apart)) (c .args .self .now .valid),
+            tt,
+          ),
+        ),
+      ),
+    )
 
 pub returns : need.returns
 returns c =

@@ -10,12 +10,19 @@ pub ghost-self : need.ghost-self
 ghost-self c =
     let kept = c .put .ensures .kept (c .args .self .now .fits, c .args .self .now .rising) in
     let same-slots = c .put .ensures .rest .slots in
-    let small = c .args .self .now .small in
-    ( kept .0
-    , ( (omega arith)
-      , ( kept .1
-        , ( puts-valid (inOrder (c .args .self .now .rows)) (inOrder (c .put .last .self)) _ _ _ (puts-equal (inOrder (c .args .self .now .rows)) (inOrder (c .put .last .self)) _ _ _ _ (c .to-record .ensures) (c .put .ensures .put (c .args .self .now .fits, c .args .self .now .rising))) (c .args .self .now .valid) (c .args .schedule .valid)
-          , tt ))))
+    let small = c .args .self .now .small in (
+      kept .0,
+      (
+        (omega arith),
+        (
+          kept .1,
+          (
+            puts-valid (inOrder (c .args .self .now .rows)) (inOrder (c .put .last .self)) _ _ _ (puts-equal (inOrder (c .args .self .now .rows)) (inOrder (c .put .last .self)) _ _ _ _ (c .to-record .ensures) (c .put .ensures .put (c .args .self .now .fits, c .args .self .now .rising))) (c .args .self .now .valid) (c .args .schedule .valid),
+            tt,
+          ),
+        ),
+      ),
+    )
 
 pub returns : need.returns
 returns c =
