@@ -28,6 +28,10 @@ letter-back ShortTerm = refl
 letter-back Overlay = refl
 letter-back Permanent = refl
 
+-- letters of one rank are one
+pub same-rank : (a b : Stp) → rankOf a ≡ rankOf b → a ≡ b
+same-rank a b e = sym (letter-back a) ∙ (ap letterAt e ∙ letter-back b)
+
 -- keys of which none is first agree in each part
 parts : (x y : Key) → keyBefore x y ≡ false → keyBefore y x ≡ false → (x .uid ≡ y .uid) × (x .from ≡ y .from) × (rankOf (x .stp) ≡ rankOf (y .stp))
 parts x y p q = (grind (arith, tells), grind (arith, tells), grind (arith, tells))
@@ -35,7 +39,7 @@ parts x y p q = (grind (arith, tells), grind (arith, tells), grind (arith, tells
 pub key-total : (x y : Key) → keyBefore x y ≡ false → keyBefore y x ≡ false → x ≡ y
 key-total x y p q =
     let h = parts x y p q in
-    let stp : x .stp ≡ y .stp = sym (letter-back (x .stp)) ∙ (ap letterAt (h .2) ∙ letter-back (y .stp)) in
+    let stp : x .stp ≡ y .stp = same-rank (x .stp) (y .stp) (h .2) in
     same (h .0) (h .1) stp
   where
     same : {u v f g : ℕ} {s t : Stp} → u ≡ v → f ≡ g → s ≡ t → _≡_ {A = Key} (record { uid = u; from = f; stp = s }) (record { uid = v; from = g; stp = t })

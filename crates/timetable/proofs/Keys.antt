@@ -39,14 +39,14 @@ keep = record {
 }
 
 -- what is in a map with a first schedule
-has-cases : (y : Record) (ys : List Record) (k : Key) (P : Type 0) → Has (y ∷ ys) k → (keyOf y ≡ k → P) → (Has ys k → P) → P
+pub has-cases : (y : Record) (ys : List Record) (k : Key) (P : Type 0) → Has (y ∷ ys) k → (keyOf y ≡ k → P) → (Has ys k → P) → P
 has-cases y ys k P h here later =
     ⊎-elim
     (λ t. here (same-is keyBefore keyOf key-lawful (keyOf y) k t))
     (λ f. later (sym (ap isSome (cond-false (same keyBefore (keyOf y) k) (Some y) (scheduleOf ys k) f)) ∙ h))
     (cases-bool (same keyBefore (keyOf y) k))
 
-has-none : (k : Key) → Has [] k → ⊥
+pub has-none : (k : Key) → Has [] k → ⊥
 has-none k h = true≢false (sym h)
 
 has-first : (y : Record) (ys : List Record) → Has (y ∷ ys) (keyOf y)

@@ -1,0 +1,4 @@
+pub mod Forces
+pub mod Tests
+pub mod Turns
+pub mod Walks

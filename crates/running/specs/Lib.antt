@@ -1,0 +1,3 @@
+pub mod Running
+pub mod Laws
+pub mod Worked
