@@ -2,6 +2,7 @@
 //!
 //! It is written from the pages in `docs/` alone.
 
+mod board;
 mod calendar;
 mod fields;
 mod files;
@@ -22,6 +23,7 @@ use std::str::FromStr;
 const USAGE: &str = "\
 usage: reference rows FILE...
        reference stores CAPACITY FILE...
+       reference board STORE CAPACITY STATION DATE FILE...
        reference generate SEED COUNT
        reference generate-schedules SEED COUNT";
 
@@ -32,6 +34,7 @@ const MOST_SLOTS: usize = 65_536;
 enum Command {
     Rows(Vec<OsString>),
     Stores { slots: usize, names: Vec<OsString> },
+    Board(board::Request, Vec<OsString>),
     Generate { seed: u64, count: usize },
     GenerateSchedules { seed: u64, count: usize },
 }
@@ -43,9 +46,18 @@ impl Command {
         match (name.to_str()?, rest) {
             ("rows", [_, ..]) => Some(Command::Rows(rest.to_vec())),
             ("stores", [slots, names @ ..]) if !names.is_empty() => Some(Command::Stores {
-                slots: number(slots).filter(|&slots| slots <= MOST_SLOTS)?,
+                slots: slots_of(slots)?,
                 names: names.to_vec(),
             }),
+            ("board", [kind, slots, station, date, names @ ..]) if !names.is_empty() => {
+                let request = board::Request {
+                    kind: board::Kind::named(kind)?,
+                    slots: slots_of(slots)?,
+                    station: station.clone(),
+                    date: date.clone(),
+                };
+                Some(Command::Board(request, names.to_vec()))
+            }
             ("generate", [seed, count]) => Some(Command::Generate {
                 seed: number(seed)?,
                 count: number(count)?,
@@ -63,6 +75,7 @@ impl Command {
         match self {
             Command::Rows(names) => report::print(&names, &mut out)?,
             Command::Stores { slots, names } => stores::print(slots, &names, &mut out)?,
+            Command::Board(request, names) => request.print(&names, &mut out)?,
             Command::Generate { seed, count } => generate::print(seed, count, &mut out)?,
             Command::GenerateSchedules { seed, count } => {
                 generate::print_schedules(seed, count, &mut out)?;
@@ -75,6 +88,11 @@ impl Command {
 /// The number that an argument writes.
 fn number<N: FromStr>(argument: &OsStr) -> Option<N> {
     argument.to_str()?.parse().ok()
+}
+
+/// The number of slots that an argument asks for.
+fn slots_of(argument: &OsStr) -> Option<usize> {
+    number(argument).filter(|&slots| slots <= MOST_SLOTS)
 }
 
 /// The commands that `--` stands between, or `None` where one of them is none.

@@ -160,7 +160,7 @@ impl Display for Departure {
 }
 
 /// A minute of the day as `HH:MM`.
-struct Clock(u32);
+pub struct Clock(pub u32);
 
 impl Display for Clock {
     fn fmt(&self, f: &mut Formatter<'_>) -> Result {

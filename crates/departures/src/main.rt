@@ -2,14 +2,21 @@
 use std::env;
 use std::error::AnyError;
 use stores::bag::Bag;
+use stores::loose_store::BagStore;
+use stores::loose_store::BagTimetable;
+use stores::ordered_store::TableStore;
+use stores::ordered_store::TableTimetable;
 use stores::table::Table;
+use timetable::Store;
+use timetable::Timetable;
 
+mod boards;
 mod drafts;
 mod keeping;
 mod rows;
 mod words;
 
-const USAGE: &str = "usage: departures rows FILE... | departures stores CAPACITY FILE...";
+const USAGE: &str = "usage: departures rows FILE... | departures stores CAPACITY FILE... | departures board STORE CAPACITY STATION DATE FILE...";
 
 // How many slots may be asked for.
 const MOST_SLOTS: usize = 65_536;
@@ -24,10 +31,7 @@ fn run_rows(rt: &LibcRuntime, names: &[String]) -> Result<(), AnyError> {
 }
 
 fn run_stores(rt: &LibcRuntime, capacity: &str, names: &[String]) -> Result<(), AnyError> {
-    let slots = capacity.parse::<usize>()?;
-    if slots > MOST_SLOTS {
-        return Err(USAGE.into());
-    }
+    let slots = slots_in(capacity)?;
     let blank = keeping::empty_record();
     let mut first = vec![in rt.alloc(); blank; slots]?;
     let mut second = vec![in rt.alloc(); blank; slots]?;
@@ -39,14 +43,50 @@ fn run_stores(rt: &LibcRuntime, capacity: &str, names: &[String]) -> Result<(), 
     keeping::print_stores(rt, &mut table, &mut bag)
 }
 
+// The number of slots that is asked for, if there may be so many.
+fn slots_in(capacity: &str) -> Result<usize, AnyError> {
+    let slots = capacity.parse::<usize>()?;
+    if slots > MOST_SLOTS {
+        return Err(USAGE.into());
+    }
+    Ok(slots)
+}
+
+fn run_board_on<S: Store>(rt: &LibcRuntime, store: &mut S, wanted: boards::Wanted, names: &[String]) -> Result<(), AnyError> {
+    let mut refused: u64 = 0;
+    for name in names {
+        refused = refused.saturating_add(boards::load_file(rt, store, name.as_str())?);
+    }
+    let mut lines = vec![in rt.alloc(); boards::empty_line(); 2 * store.capacity()]?;
+    boards::print_board(rt, store, lines.as_mut_slice(), wanted, refused)
+}
+
+fn run_board(rt: &LibcRuntime, capacity: &str, wanted: boards::Wanted, names: &[String]) -> Result<(), AnyError> {
+    let blank = keeping::empty_record();
+    let mut slots = vec![in rt.alloc(); blank; slots_in(capacity)?]?;
+    match wanted.store {
+        "table" => {
+            let mut store = Table::new(slots.as_mut_slice());
+            run_board_on(rt, &mut store, wanted, names)
+        }
+        "bag" => {
+            let mut store = Bag::new(slots.as_mut_slice());
+            run_board_on(rt, &mut store, wanted, names)
+        }
+        _ => Err(USAGE.into()),
+    }
+}
+
 fn run_task(rt: &LibcRuntime, words: &[String]) -> Result<(), AnyError> {
     match words {
-        [command, names @ ..] if command.as_str() == "rows" && !names.is_empty() => run_rows(
-            rt,
-            names,
-        ),
-        [command, capacity, names @ ..] if command.as_str() == "stores" && !names.is_empty() =>
-            run_stores(rt, capacity.as_str(), names),
+        [command, names @ ..] if command.as_str() == "rows" && !names.is_empty() => run_rows(rt, names),
+        [command, capacity, names @ ..] if command.as_str() == "stores" && !names.is_empty() => {
+            run_stores(rt, capacity.as_str(), names)
+        }
+        [command, store, capacity, station, date, names @ ..] if command.as_str() == "board" && !names.is_empty() => {
+            let wanted = boards::Wanted { store: store.as_str(), station: station.as_str(), date: date.as_str() };
+            run_board(rt, capacity.as_str(), wanted, names)
+        }
         _ => Err(USAGE.into()),
     }
 }

@@ -2,7 +2,10 @@
 ghost use mathlib.Core.Path.{_≡_};
 ghost use mathlib.Core.Bool.{true};
 ghost use Rattle.schedule.specs.Records.{isSchedule};
+use crate::key::Key;
 use crate::record::Record;
+use cif::content::Location;
+use forms::letters::Stp;
 
 // A schedule has the properties of every schedule that exists. It is passed by value or written whole, and never lies in a slot.
 #[derive(Clone, Copy)]
@@ -12,6 +15,30 @@ pub struct Schedule {
 }
 
 impl Schedule {
+    // A schedule to be written over: a permanent one without calls, of one day.
+    pub fn blank() -> Schedule
+        ensures { λ r. ⌜ r .plain .count ≡ 0 ⌝ }
+    {
+        let filler = Location {
+            tiploc: *b"       ",
+            suffix: b' ',
+            arrival: None,
+            departure: None,
+            platform: *b"   ",
+        };
+        let plain = Record {
+            key: Key { uid: 0, from: 0, stp: Stp::Permanent },
+            to: 0,
+            days: [false; 7],
+            train: *b"    ",
+            operator: *b"  ",
+            destination: *b"       ",
+            calls: [filler; 48],
+            count: 0,
+        };
+        Schedule { plain }
+    }
+
     // The record that holds it.
     pub fn to_record(&self) -> Record
         ensures { λ r. ⌜ r ≡ now (self .entry) .plain ⌝ }

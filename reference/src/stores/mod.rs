@@ -2,8 +2,8 @@
 //! bag, since both must agree with it.
 
 mod gather;
-mod record;
-mod store;
+pub mod record;
+pub mod store;
 
 use crate::files::{self, rows_of};
 use crate::row::Row;
@@ -13,20 +13,61 @@ use std::ffi::OsString;
 use std::io::{self, Write};
 use store::{Answer, Store};
 
+/// How many puts were refused as full or were not schedules.
+pub type Refused = usize;
+
 /// Prints what comes of the transactions in the files of these names, and then the store,
 /// which has so many slots.
 pub fn print(slots: usize, names: &[OsString], out: &mut impl Write) -> io::Result<()> {
     let mut store = Store::new(slots);
     for name in names {
-        let bytes = files::read(name)?;
-        let mut gatherer = Gatherer::default();
-        for (_, row) in rows_of(&bytes).filter_map(|row| Row::read(row).ok()) {
-            if let Some(transaction) = gatherer.take(row) {
-                print_transaction(&mut store, transaction, out)?;
-            }
+        for transaction in transactions(&files::read(name)?) {
+            print_transaction(&mut store, transaction, out)?;
         }
     }
     print_store(&store, out)
+}
+
+/// A store of so many slots after the transactions in the files of these names.
+pub fn filled(slots: usize, names: &[OsString]) -> io::Result<(Store, Refused)> {
+    let (mut store, mut refused) = (Store::new(slots), 0);
+    for name in names {
+        refused += fill(&mut store, &files::read(name)?);
+    }
+    Ok((store, refused))
+}
+
+/// A store of so many slots after the transactions in one file of these bytes.
+#[cfg(test)]
+pub fn filled_from(slots: usize, bytes: &[u8]) -> (Store, Refused) {
+    let mut store = Store::new(slots);
+    let refused = fill(&mut store, bytes);
+    (store, refused)
+}
+
+/// Does the transactions in a file of these bytes, and counts the puts that came to nothing.
+fn fill(store: &mut Store, bytes: &[u8]) -> Refused {
+    transactions(bytes)
+        .map(|transaction| apply(store, transaction))
+        .filter(|answer| matches!(answer, Answer::Full | Answer::NotASchedule))
+        .count()
+}
+
+/// The transactions in a file of these bytes; rows that are refused are passed over.
+fn transactions(bytes: &[u8]) -> impl Iterator<Item = Transaction> + '_ {
+    let mut gatherer = Gatherer::default();
+    rows_of(bytes)
+        .filter_map(|row| Row::read(row).ok())
+        .filter_map(move |(_, row)| gatherer.take(row))
+}
+
+fn apply(store: &mut Store, transaction: Transaction) -> Answer {
+    match transaction {
+        Transaction::Put(record) => {
+            Schedule::check(record).map_or(Answer::NotASchedule, |schedule| store.put(schedule))
+        }
+        Transaction::Remove(key) => store.remove(key),
+    }
 }
 
 fn print_transaction(
@@ -34,15 +75,11 @@ fn print_transaction(
     transaction: Transaction,
     out: &mut impl Write,
 ) -> io::Result<()> {
-    match transaction {
-        Transaction::Put(record) => {
-            let key = record.key;
-            let answer = Schedule::check(record)
-                .map_or(Answer::NotASchedule, |schedule| store.put(schedule));
-            writeln!(out, "put {key}: {answer}")
-        }
-        Transaction::Remove(key) => writeln!(out, "remove {key}: {}", store.remove(key)),
-    }
+    let (asked, key) = match &transaction {
+        Transaction::Put(record) => ("put", record.key),
+        Transaction::Remove(key) => ("remove", *key),
+    };
+    writeln!(out, "{asked} {key}: {}", apply(store, transaction))
 }
 
 fn print_store(store: &Store, out: &mut impl Write) -> io::Result<()> {

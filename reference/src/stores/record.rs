@@ -100,6 +100,10 @@ impl Schedule {
     pub fn key(&self) -> Key {
         self.0.key
     }
+
+    pub fn record(&self) -> &Record {
+        &self.0
+    }
 }
 
 impl fmt::Display for Schedule {
