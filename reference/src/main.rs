@@ -35,6 +35,7 @@ enum Command {
     Rows(Vec<OsString>),
     Stores { slots: usize, names: Vec<OsString> },
     Board(board::Request, Vec<OsString>),
+    Turns(u64, board::Request, Vec<OsString>),
     Generate { seed: u64, count: usize },
     GenerateSchedules { seed: u64, count: usize },
 }
@@ -49,14 +50,12 @@ impl Command {
                 slots: slots_of(slots)?,
                 names: names.to_vec(),
             }),
-            ("board", [kind, slots, station, date, names @ ..]) if !names.is_empty() => {
-                let request = board::Request {
-                    kind: board::Kind::named(kind)?,
-                    slots: slots_of(slots)?,
-                    station: station.clone(),
-                    date: date.clone(),
-                };
-                Some(Command::Board(request, names.to_vec()))
+            ("board", [kind, slots, station, date, names @ ..]) if !names.is_empty() => Some(
+                Command::Board(request(kind, slots, station, date)?, names.to_vec()),
+            ),
+            ("turns", [times, kind, slots, station, date, names @ ..]) if !names.is_empty() => {
+                let request = request(kind, slots, station, date)?;
+                Some(Command::Turns(number(times)?, request, names.to_vec()))
             }
             ("generate", [seed, count]) => Some(Command::Generate {
                 seed: number(seed)?,
@@ -76,6 +75,9 @@ impl Command {
             Command::Rows(names) => report::print(&names, &mut out)?,
             Command::Stores { slots, names } => stores::print(slots, &names, &mut out)?,
             Command::Board(request, names) => request.print(&names, &mut out)?,
+            Command::Turns(times, request, names) => {
+                request.print_turns(times, &names, &mut out)?;
+            }
             Command::Generate { seed, count } => generate::print(seed, count, &mut out)?,
             Command::GenerateSchedules { seed, count } => {
                 generate::print_schedules(seed, count, &mut out)?;
@@ -83,6 +85,16 @@ impl Command {
         }
         out.flush()
     }
+}
+
+/// The board that these arguments ask for.
+fn request(kind: &OsStr, slots: &OsStr, station: &OsStr, date: &OsStr) -> Option<board::Request> {
+    Some(board::Request {
+        kind: board::Kind::named(kind)?,
+        slots: slots_of(slots)?,
+        station: station.to_owned(),
+        date: date.to_owned(),
+    })
 }
 
 /// The number that an argument writes.

@@ -37,9 +37,9 @@ pub record Here (station : List ℕ) (r : Record) (p : ℕ) (l : Line) : Type 0 
 pub line-here : (station : List ℕ) (r : Record) (p : ℕ) (l : Line) → lineAt station r p ≡ Some l → Here station r p l
 line-here station r p l h =
     ⊎-elim
-      (λ t. from t (callAt r p .departure) (sym (cond-true (isAt station (callAt r p)) (departing r p (callAt r p .departure)) None t) ∙ h))
-      (λ f. absurd (none-some l (sym (cond-false (isAt station (callAt r p)) (departing r p (callAt r p .departure)) None f) ∙ h)))
-      (cases-bool (isAt station (callAt r p)))
+    (λ t. from t (callAt r p .departure) (sym (cond-true (isAt station (callAt r p)) (departing r p (callAt r p .departure)) None t) ∙ h))
+    (λ f. absurd (none-some l (sym (cond-false (isAt station (callAt r p)) (departing r p (callAt r p .departure)) None f) ∙ h)))
+    (cases-bool (isAt station (callAt r p)))
   where
     from : isAt station (callAt r p) ≡ true → (o : Option ℕ) → departing r p o ≡ Some l → Here station r p l
     from t None e = absurd (none-some l e)
@@ -55,9 +55,9 @@ visits-more t [] (suc p) no-t = sym (cond-false (isAt t noCall) 1 0 no-t)
 visits-more t (c ∷ cs) zero no-t = refl
 visits-more t (c ∷ cs) (suc p) no-t =
     ⊎-elim
-      (λ (u : isAt t c ≡ true). rw u (ap (λ n. n + 1) (visits-more t cs p no-t) ∙ moved (isAt t (getD cs p noCall)) (visits t (take p cs))))
-      (λ (u : isAt t c ≡ false). rw u (visits-more t cs p no-t))
-      (cases-bool (isAt t c))
+    (λ (u : isAt t c ≡ true). rw u (ap (λ n. n + 1) (visits-more t cs p no-t) ∙ moved (isAt t (getD cs p noCall)) (visits t (take p cs))))
+    (λ (u : isAt t c ≡ false). rw u (visits-more t cs p no-t))
+    (cases-bool (isAt t c))
   where
     moved : (b : Bool) (n : ℕ) → cond b (n + 1) n + 1 ≡ cond b ((n + 1) + 1) (n + 1)
     moved true n = refl
@@ -67,12 +67,12 @@ length-including : (xs : List Line) (x : Line) → length (including lineBefore 
 length-including [] x = omega arith
 length-including (y ∷ ys) x =
     ⊎-elim
-      (λ (t : lineBefore (lineKey y) (lineKey x) ≡ true). rw t (let h = length-including ys x in omega arith))
-      (λ (f : lineBefore (lineKey y) (lineKey x) ≡ false). ⊎-elim
-        (λ (t : lineBefore (lineKey x) (lineKey y) ≡ true). rw (f, t) (omega arith))
-        (λ (g : lineBefore (lineKey x) (lineKey y) ≡ false). rw (f, g) (omega arith))
-        (cases-bool (lineBefore (lineKey x) (lineKey y))))
-      (cases-bool (lineBefore (lineKey y) (lineKey x)))
+    (λ (t : lineBefore (lineKey y) (lineKey x) ≡ true). rw t (let h = length-including ys x in omega arith))
+    (λ (f : lineBefore (lineKey y) (lineKey x) ≡ false). ⊎-elim
+    (λ (t : lineBefore (lineKey x) (lineKey y) ≡ true). rw (f, t) (omega arith))
+    (λ (g : lineBefore (lineKey x) (lineKey y) ≡ false). rw (f, g) (omega arith))
+    (cases-bool (lineBefore (lineKey x) (lineKey y))))
+    (cases-bool (lineBefore (lineKey y) (lineKey x)))
 
 some-at : {X : Type 0} (o : Option X) (x y : X) → o ≡ Some x → o ≡ Some y → x ≡ y
 some-at o x y p q = some-is x y (sym p ∙ q)
@@ -86,7 +86,7 @@ module _ (station : List ℕ) (r : Record) (p : ℕ) (xs ys : List Line) (a : Ad
 
   visit-least : visits station (take p (r .calls)) ≤ visits station (take (p + 1) (r .calls))
   visit-least =
-    ⊎-elim
+      ⊎-elim
       (λ t. omega (arith, visit-more ∙ cond-true (isAt station (callAt r p)) _ _ t))
       (λ f. omega (arith, visit-more ∙ cond-false (isAt station (callAt r p)) _ _ f))
       (cases-bool (isAt station (callAt r p)))
@@ -97,9 +97,9 @@ module _ (station : List ℕ) (r : Record) (p : ℕ) (xs ys : List Line) (a : Ad
     only = λ l o. ⊎-elim (λ x. inl x) (λ h. inr (let q = h .0 in omega arith, h .1)) (a .only l o);
     kept = a .kept;
     every = λ l h e. ⊎-elim
-      (λ (same-place : l .key .place ≡ p). absurd (none-some l (none ∙ (ap (lineAt station r) (sym same-place) ∙ e))))
-      (λ ne. a .every l (omega arith) e)
-      (cases-eq (l .key .place) p);
+        (λ (same-place : l .key .place ≡ p). absurd (none-some l (none ∙ (ap (lineAt station r) (sym same-place) ∙ e))))
+        (λ ne. a .every l (omega arith) e)
+        (cases-eq (l .key .place) p);
     few = let f = a .few in let v = visit-least in omega arith;
   }
 
@@ -123,23 +123,23 @@ module _ (station : List ℕ) (r : Record) (p : ℕ) (xs ys : List Line) (a : Ad
     pub added-line : Added station r (p + 1) xs after
     added-line = record {
       only = λ l o. ⊎-elim
-        (λ t.
+          (λ t.
           let e : x ≡ l = some-at _ x l (looked l ∙ cond-true (same lineBefore (lineKey x) (lineKey l)) (Some x) (lookup lineBefore lineKey ys (lineKey l)) t) o in
           let q = here .place in
           inr (subst (λ (y : Line). (y .key .place < p + 1) × (lineAt station r (y .key .place) ≡ Some y)) e (omega arith, ap (lineAt station r) (here .place) ∙ sym line)))
-        (λ f. ⊎-elim (λ old. inl old) (λ h. inr (let q = h .0 in omega arith, h .1))
+          (λ f. ⊎-elim (λ old. inl old) (λ h. inr (let q = h .0 in omega arith, h .1))
           (a .only l (sym (looked l ∙ cond-false (same lineBefore (lineKey x) (lineKey l)) (Some x) (lookup lineBefore lineKey ys (lineKey l)) f) ∙ o)))
-        (cases-bool (same lineBefore (lineKey x) (lineKey l)));
+          (cases-bool (same lineBefore (lineKey x) (lineKey l)));
       kept = λ l o. apart l (λ e. fresh l o (sym (ap (λ (k : LineKey). k .uid) e) ∙ here .uid)) (a .kept l o);
       every = λ l h e. ⊎-elim
-        (λ (same-place : l .key .place ≡ p). subst (λ (y : Line). On after y) (some-is x l (line ∙ (ap (lineAt station r) (sym same-place) ∙ e))) on-x)
-        (λ ne. apart l (λ k. ne (sym (ap (λ (j : LineKey). j .place) k) ∙ here .place)) (a .every l (omega arith) e))
-        (cases-eq (l .key .place) p);
+          (λ (same-place : l .key .place ≡ p). subst (λ (y : Line). On after y) (some-is x l (line ∙ (ap (lineAt station r) (sym same-place) ∙ e))) on-x)
+          (λ ne. apart l (λ k. ne (sym (ap (λ (j : LineKey). j .place) k) ∙ here .place)) (a .every l (omega arith) e))
+          (cases-eq (l .key .place) p);
       few =
-        let f = a .few in
-        let n = length-including ys x in
-        let v = visit-more ∙ cond-true (isAt station (callAt r p)) _ _ (here .at) in
-        omega arith;
+          let f = a .few in
+          let n = length-including ys x in
+          let v = visit-more ∙ cond-true (isAt station (callAt r p)) _ _ (here .at) in
+          omega arith;
     }
 
 -- no schedule has more than two calls at a station
@@ -149,8 +149,8 @@ two-visits t cs few = ⊎-elim (λ h. h) (λ none. omega arith) (look cs few)
     look : (ds : List Location) → everyCall (λ c. leb (visits (c .tiploc) cs) 2) ds ≡ true → (visits t cs ≤ 2) ⊎ (visits t ds ≡ 0)
     look [] e = inr refl
     look (d ∷ ds) e =
-      let q = and-parts (leb (visits (d .tiploc) cs) 2) (everyCall (λ c. leb (visits (c .tiploc) cs) 2) ds) e in
-      ⊎-elim
+        let q = and-parts (leb (visits (d .tiploc) cs) 2) (everyCall (λ c. leb (visits (c .tiploc) cs) 2) ds) e in
+        ⊎-elim
         (λ (u : isAt t d ≡ true). inl (subst (λ (z : List ℕ). visits z cs ≤ 2) (sameBytes-decides (d .tiploc) t .0 u) (leb-true (visits (d .tiploc) cs) 2 (q .0))))
         (λ (u : isAt t d ≡ false). ⊎-elim (λ h. inl h) (λ none. inr (cond-false (isAt t d) _ _ u ∙ none)) (look ds (q .1)))
         (cases-bool (isAt t d))

@@ -63,8 +63,8 @@ module _ (m : List Record) (station : List ℕ) (day u : ℕ) (key : Key) (n : N
   -- no train lies between the probe's and the next key's
   gap : (l : Line) → IsLine m station day l → u ≤ l .key .uid → l .key .uid < key .uid → ⊥
   gap l i a b =
-    let e = i .force .candidate .train in
-    both-ways (keyBefore (keyOf (i .schedule)) key)
+      let e = i .force .candidate .train in
+      both-ways (keyBefore (keyOf (i .schedule)) key)
       (n .least (keyOf (i .schedule)) (held-has m (i .schedule) (line-held m station day l i)) (not-before-train (keyOf (i .schedule)) u (omega arith)))
       (lower-uid (keyOf (i .schedule)) key (omega arith))
 
@@ -76,12 +76,12 @@ module _ (m : List Record) (station : List ℕ) (day u : ℕ) (key : Key) (n : N
     more ys t = record {
       only = λ l o. ⊎-elim (λ x. let h = w .only l x in (h .0, let b = h .1 in let r = reached in omega arith)) (λ h. (h .0, let e = h .1 in omega arith)) (t .only l o);
       every = λ l i b. ⊎-elim
-        (λ (e : l .key .uid ≡ key .uid). t .every l i e)
-        (λ d. ⊎-elim
+          (λ (e : l .key .uid ≡ key .uid). t .every l i e)
+          (λ d. ⊎-elim
           (λ (below : l .key .uid < key .uid). ⊎-elim (λ (old : l .key .uid < u). t .kept l (w .every l i old)) (λ (past : u ≤ l .key .uid). absurd (gap l i past below)) (cases-lt (l .key .uid) u))
           (λ above. absurd (omega arith))
           d)
-        (cases-order (l .key .uid) (key .uid));
+          (cases-order (l .key .uid) (key .uid));
     }
 
 -- at the end all lines are there
@@ -90,9 +90,9 @@ whole m station day u ys is none w up = record {
   ordered = up;
   only = λ l o. w .only l o .0;
   every = λ l i.
-    let e = i .force .candidate .train in
-    let b = before-train (keyOf (i .schedule)) u (all-before m (firstOf u) is (sym none) (keyOf (i .schedule)) (held-has m (i .schedule) (line-held m station day l i))) in
-    w .every l i (omega arith);
+      let e = i .force .candidate .train in
+      let b = before-train (keyOf (i .schedule)) u (all-before m (firstOf u) is (sym none) (keyOf (i .schedule)) (held-has m (i .schedule) (line-held m station day l i))) in
+      w .every l i (omega arith);
 }
 
 -- the measure: how many keys are left
@@ -109,13 +109,13 @@ module _ (m : List Record) (is : IsMap m) (u : ℕ) (key : Key) (value : Some ke
 
   pub falls : left m (firstOf (key .uid + 1)) < left m (firstOf u)
   falls =
-    let later = lower-uid key (firstOf (key .uid + 1)) (omega arith) in
-    left-falls (firstOf u) (firstOf (key .uid + 1)) (moves-on (firstOf u) key (firstOf (key .uid + 1)) (step .past) later) m key (step .there) (step .past) later
+      let later = lower-uid key (firstOf (key .uid + 1)) (omega arith) in
+      left-falls (firstOf u) (firstOf (key .uid + 1)) (moves-on (firstOf u) key (firstOf (key .uid + 1)) (step .past) later) m key (step .there) (step .past) later
 
   pub uid-small : key .uid < 2600000
   uid-small =
-    has-held m key (key .uid < 2600000) (step .there)
-    (λ h e. subst (λ (k : Key). k .uid < 2600000) (found-key m key h e)
+      has-held m key (key .uid < 2600000) (step .there)
+      (λ h e. subst (λ (k : Key). k .uid < 2600000) (found-key m key h e)
       (ltb-true (h .key .uid) 2600000 (and-parts (ltb (h .key .uid) 2600000) _ (and-parts (inRange h) _ (found-valid m key h (is .schedules) (sym e)) .0) .0)))
 
 -- the rules of a board leave no choice of its lines
@@ -130,9 +130,9 @@ on-key : (xs : List Line) (k : LineKey) (l : Line) → lookup lineBefore lineKey
 on-key [] k l h = absurd (none-some l h)
 on-key (y ∷ ys) k l h =
     ⊎-elim
-      (λ t. ap lineKey (some-is l y (sym h ∙ cond-true (same lineBefore (lineKey y) k) (Some y) (lookup lineBefore lineKey ys k) t)) ∙ same-is lineBefore lineKey line-lawful (lineKey y) k t)
-      (λ f. on-key ys k l (sym (cond-false (same lineBefore (lineKey y) k) (Some y) (lookup lineBefore lineKey ys k) f) ∙ h))
-      (cases-bool (same lineBefore (lineKey y) k))
+    (λ t. ap lineKey (some-is l y (sym h ∙ cond-true (same lineBefore (lineKey y) k) (Some y) (lookup lineBefore lineKey ys k) t)) ∙ same-is lineBefore lineKey line-lawful (lineKey y) k t)
+    (λ f. on-key ys k l (sym (cond-false (same lineBefore (lineKey y) k) (Some y) (lookup lineBefore lineKey ys k) f) ∙ h))
+    (cases-bool (same lineBefore (lineKey y) k))
 
 -- a line of one board is a line of the other, under the same key
 carried : (m : List Record) (station : List ℕ) (day : ℕ) (xs ys : List Line) → BoardOf m station day xs → BoardOf m station day ys → (k : LineKey) (l : Line) → lookup lineBefore lineKey xs k ≡ Some l → lookup lineBefore lineKey ys k ≡ Some l
@@ -144,7 +144,7 @@ pub board-one : Board-is-one
 board-one m station day xs ys a b =
     same-maps lineBefore lineKey line-lawful xs ys (a .ordered) (b .ordered)
     (λ k. line-of xs k (lookup lineBefore lineKey xs k ≡ lookup lineBefore lineKey ys k)
-      (λ l e. e ∙ sym (carried m station day xs ys a b k l e))
-      (λ e. line-of ys k (lookup lineBefore lineKey xs k ≡ lookup lineBefore lineKey ys k)
-        (λ l f. absurd (none-some l (sym e ∙ carried m station day ys xs b a k l f)))
-        (λ f. e ∙ sym f)))
+    (λ l e. e ∙ sym (carried m station day xs ys a b k l e))
+    (λ e. line-of ys k (lookup lineBefore lineKey xs k ≡ lookup lineBefore lineKey ys k)
+    (λ l f. absurd (none-some l (sym e ∙ carried m station day ys xs b a k l f)))
+    (λ f. e ∙ sym f)))

@@ -15,9 +15,9 @@ use Rattle.forms.specs.declared.letters.Stp.the-variants.{Cancellation, ShortTe
 use Rattle.schedule.specs.declared.record.Record.{Record}
 use Rattle.schedule.specs.Records.{isAt, visits, keptCalls, fewVisits, everyCall, isFiller, inRange, bareIfCancelled, isCancellation, isSchedule}
 use Rattle.running.specs.Running.{Candidate, InForce}
-use Rattle.running.proofs.Forces.{one}
+use Rattle.running.proofs.Forces.{one, alone, none-some}
 use Rattle.board.specs.declared.line.Line.{Line}
-use Rattle.board.specs.Lines.{On, noCall, lineAt, IsLine}
+use Rattle.board.specs.Lines.{On, noCall, lineAt, IsLine, Lines-of-train-alone, In-force-hides, Cancelled-hides}
 use Rattle.board.specs.Filling.{Added, Trained}
 use Rattle.board.proofs.Adds.{line-here, two-visits}
 
@@ -61,13 +61,30 @@ module _ (m : List Record) (station : List ℕ) (day uid : ℕ) (xs : List Line)
   pub trained-calls : (r : Record) (ys : List Line) → InForce m uid day r → isCancellation (r .key .stp) ≡ false → isSchedule r ≡ true → Added station r (r .count) xs ys → Trained m station day uid xs ys
   trained-calls r ys f runs v a = record {
     only = λ l o. ⊎-elim (λ x. inl x)
-      (λ h.
+        (λ h.
         let e : l .key .uid ≡ uid = line-here station r (l .key .place) l (h .1) .uid ∙ f .candidate .train in
         inr (record { schedule = r; force = subst (λ (u : ℕ). InForce m u day r) (sym e) f; runs = runs; kept = h .0; line = h .1 }, e))
-      (a .only l o);
+        (a .only l o);
     kept = a .kept;
     every = λ l i e.
-      let s = in-force-is r f l i e in
-      a .every l (subst (λ (x : Record). l .key .place < x .count) s (i .kept)) (ap (λ (x : Record). lineAt station x (l .key .place)) (sym s) ∙ i .line);
+        let s = in-force-is r f l i e in
+        a .every l (subst (λ (x : Record). l .key .place < x .count) s (i .kept)) (ap (λ (x : Record). lineAt station x (l .key .place)) (sym s) ∙ i .line);
     few = let n = a .few in let t = calls station r v .two in omega arith;
   }
+
+pub train-alone : Lines-of-train-alone
+train-alone m n station day uid same l e i = record {
+  schedule = i .schedule;
+  force = alone m n (l .key .uid) day (λ k f. same k (f ∙ e)) (i .schedule) (i .force);
+  runs = i .runs;
+  kept = i .kept;
+  line = i .line;
+}
+
+pub hides : In-force-hides
+hides m station day uid r f none l e i =
+    let s = in-force-is m station day uid [] r f l i e in
+    none-some l (sym (none (l .key .place) (subst (λ (x : Record). l .key .place < x .count) s (i .kept))) ∙ (ap (λ (x : Record). lineAt station x (l .key .place)) (sym s) ∙ i .line))
+
+pub cancelled : Cancelled-hides
+cancelled m station day uid r f c l e i = cancelled-none m station day uid [] r f c l i e

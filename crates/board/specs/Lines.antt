@@ -9,8 +9,10 @@ use Rattle.std.specs.declared.option.Option.{Option}
 use Rattle.std.specs.declared.option.Option.the-variants.{Some, None}
 use Rattle.cif.specs.declared.content.Location.{Location}
 use Rattle.maps.specs.Maps.{ascending, lookup}
+use Rattle.schedule.specs.declared.key.Key.{Key}
 use Rattle.schedule.specs.declared.record.Record.{Record}
 use Rattle.schedule.specs.Records.{isAt, isCancellation}
+use Rattle.timetable.specs.Timetables.{scheduleOf}
 use Rattle.running.specs.Running.{InForce}
 use Rattle.board.specs.declared.line.LineKey.{LineKey}
 use Rattle.board.specs.declared.line.Line.{Line}
@@ -41,7 +43,10 @@ abbrev pub departing : Record → ℕ → Option ℕ → Option Line
 departing r place (Some minute) =
     Some (record {
       key = record { minute = minute; uid = r .key .uid; place = place };
-      platform = callAt r place .platform; destination = r .destination; train = r .train; operator = r .operator
+      platform = callAt r place .platform;
+      destination = r .destination;
+      train = r .train;
+      operator = r .operator;
     })
 departing r place None = None
 
@@ -66,3 +71,21 @@ pub record BoardOf (m : List Record) (station : List ℕ) (day : ℕ) (lines : L
 -- those rules leave no choice of the lines
 abbrev pub Board-is-one : Type 0
 Board-is-one = (m : List Record) (station : List ℕ) (day : ℕ) (xs ys : List Line) → BoardOf m station day xs → BoardOf m station day ys → xs ≡ ys
+
+-- the lines of a train depend on the schedules of that train alone
+abbrev pub Lines-of-train-alone : Type 0
+Lines-of-train-alone =
+    (m n : List Record) (station : List ℕ) (day uid : ℕ) → ((k : Key) → k .uid ≡ uid → scheduleOf m k ≡ scheduleOf n k)
+    → (l : Line) → l .key .uid ≡ uid → IsLine m station day l → IsLine n station day l
+
+-- a train whose schedule in force has no line at a station has none there, whatever else it has
+abbrev pub In-force-hides : Type 0
+In-force-hides =
+    (m : List Record) (station : List ℕ) (day uid : ℕ) (r : Record) → InForce m uid day r → ((place : ℕ) → place < r .count → lineAt station r place ≡ None)
+    → (l : Line) → l .key .uid ≡ uid → IsLine m station day l → ⊥
+
+-- a train whose schedule in force is a cancellation has no lines
+abbrev pub Cancelled-hides : Type 0
+Cancelled-hides =
+    (m : List Record) (station : List ℕ) (day uid : ℕ) (r : Record) → InForce m uid day r → isCancellation (r .key .stp) ≡ true
+    → (l : Line) → l .key .uid ≡ uid → IsLine m station day l → ⊥

@@ -5,7 +5,6 @@ ghost use Prim.Native.Nat.{_≤_};
 ghost use Rattle.maps.specs.Maps.{ascending};
 ghost use Rattle.ordered.specs.Tables.{items, room};
 ghost use Rattle.board.specs.Lines.{lineBefore, lineKey};
-
 use crate::line::Line;
 use ordered::ordered::Ordered;
 

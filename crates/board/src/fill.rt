@@ -11,13 +11,12 @@ ghost use Rattle.board.specs.Lines.{lineBefore, lineKey, noCall, callAt, lineA
 ghost use Rattle.running.specs.Running.{InForce};
 ghost use Rattle.timetable.specs.Timetables.{IsMap};
 ghost use Rattle.board.specs.Filling.{Added, Fresh, Trained, UpTo};
-
 use crate::line::Line;
 use crate::line::LineKey;
 use crate::order::LineByKey;
 use crate::order::LineKeyByParts;
-use ordered::ordered::Ordered;
 use forms::letters::Stp;
+use ordered::ordered::Ordered;
 use running::force::in_force;
 use schedule::check::is_at;
 use schedule::key::Key;
@@ -35,12 +34,22 @@ fn line_at(plain: &Record, place: u8, station: &[u8; 7]) -> Option<Line>
         return None;
     }
     let minute = call.departure?;
-    let key = LineKey { minute, uid: plain.key.uid, place };
+    let key = LineKey {
+        minute,
+        uid: plain.key.uid,
+        place,
+    };
     let platform = call.platform;
     let destination = plain.destination;
     let train = plain.train;
     let operator = plain.operator;
-    Some(Line { key, platform, destination, train, operator })
+    Some(Line {
+        key,
+        platform,
+        destination,
+        train,
+        operator,
+    })
 }
 
 // Adds the line of the call at a place, if it has one.
@@ -75,7 +84,14 @@ pub(crate) fn add_calls(lines: &mut Ordered<'_, Line>, plain: &Record, station: 
 }
 
 // Adds the lines of a train: those of its schedule in force, unless there is none or it is a cancellation.
-fn add_train<T: Timetable>(timetable: &mut T, lines: &mut Ordered<'_, Line>, uid: u32, station: &[u8; 7], day: u16, place: &mut Schedule)
+fn add_train<T: Timetable>(
+    timetable: &mut T,
+    lines: &mut Ordered<'_, Line>,
+    uid: u32,
+    station: &[u8; 7],
+    day: u16,
+    place: &mut Schedule,
+)
     requires order { ⌜ InOrder lineBefore lineKey (now lines .inner) ⌝ }
     requires room { ⌜ length (items (now lines .inner)) + 2 ≤ room (now lines .inner) ⌝ }
     requires fresh { ⌜ Fresh (items (now lines .inner)) uid ⌝ }
@@ -95,16 +111,27 @@ fn add_train<T: Timetable>(timetable: &mut T, lines: &mut Ordered<'_, Line>, uid
 }
 
 // Sets the lines to those of a station and day, train by train.
-pub(crate) fn set_lines<T: Timetable>(timetable: &mut T, lines: &mut Ordered<'_, Line>, station: &[u8; 7], day: u16, place: &mut Schedule)
+pub(crate) fn set_lines<T: Timetable>(
+    timetable: &mut T,
+    lines: &mut Ordered<'_, Line>,
+    station: &[u8; 7],
+    day: u16,
+    place: &mut Schedule,
+)
     requires room { ⌜ 2 * length (T·Timetable .map (now timetable)) ≤ room (now lines .inner) ⌝ }
     ensures board { λ _. ⌜ BoardOf (T·Timetable .map (now (timetable .entry))) (now (station .entry)) day (items (now (lines .exit) .inner)) ⌝ }
+    ensures few { λ _. ⌜ length (items (now (lines .exit) .inner)) ≤ 2 * length (T·Timetable .map (now (timetable .entry))) ⌝ }
     ensures order { λ _. ⌜ InOrder lineBefore lineKey (now (lines .exit) .inner) ⌝ }
     ensures room { λ _. ⌜ room (now (lines .exit) .inner) ≡ room (now (lines .entry) .inner) ⌝ }
     ensures same { λ _. ⌜ now (timetable .exit) ≡ now (timetable .entry) ⌝ }
 {
     lines.inner.len = 0;
     let mut uid: u32 = 0;
-    while let Some(key) = timetable.not_before(Key { uid, from: 0, stp: Stp::Cancellation }) {
+    while let Some(key) = timetable.not_before(Key {
+        uid,
+        from: 0,
+        stp: Stp::Cancellation,
+    }) {
         add_train(timetable, lines, key.uid, station, day, place);
         uid = key.uid + 1;
     }

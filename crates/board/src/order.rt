@@ -1,6 +1,5 @@
 // The order of lines.
 ghost use Rattle.board.specs.Lines.{lineBefore, lineKey};
-
 use crate::line::Line;
 use crate::line::LineKey;
 use ordered::keys::KeyOrder;
@@ -11,7 +10,8 @@ pub impl KeyOrder for LineKey as LineKeyByParts {
 
     fn is_before(&self, other: &LineKey) -> bool {
         self.minute < other.minute
-            || self.minute == other.minute && (self.uid < other.uid || self.uid == other.uid && self.place < other.place)
+            || self.minute == other.minute
+                && (self.uid < other.uid || self.uid == other.uid && self.place < other.place)
     }
 }
 

@@ -12,7 +12,6 @@ ghost use Rattle.ordered.specs.Tables.{items, room};
 ghost use Rattle.board.specs.declared.line.Line.{Line};
 ghost use Rattle.board.specs.Lines.{BoardOf};
 ghost use Rattle.board.specs.Turning.{turnLines};
-
 use crate::display::Board;
 use crate::fill::set_lines;
 use crate::line::Line;
@@ -32,7 +31,11 @@ impl Board<'_> {
         ensures slots { λ r. ⌜ room (r .lines .inner) ≡ length (now (slots .entry)) ⌝ }
     {
         let lines = Ordered::new(slots);
-        Board { lines, station: None, day: 0 }
+        Board {
+            lines,
+            station: None,
+            day: 0,
+        }
     }
 
     // The line at a place counted from 0.
@@ -48,9 +51,15 @@ impl Board<'_> {
     }
 
     // Sets the station and day, and the lines to those that the store's map gives for them.
-    pub fn turn<S: Store>(&mut self, store: &mut S, station: &[u8], day: u32) -> Result<(), ColumnFault>
+    pub fn turn<S: Store>(
+        &mut self,
+        store: &mut S,
+        station: &[u8],
+        day: u32,
+    ) -> Result<(), ColumnFault>
         ensures told { λ r. ⌜ faultOf r ≡ uppermost (turnLines (now (station .entry)) day (room (now (self .entry) .lines .inner)) (S·Timetable .capacity (now (store .entry)))) ⌝ }
         ensures board { λ r. ⌜ (isOk r ≡ true → BoardOf (S·Timetable .map (now (store .entry))) (now (station .entry)) day (items (now (self .exit) .lines .inner))) ⌝ }
+        ensures few { λ r. ⌜ (isOk r ≡ true → length (items (now (self .exit) .lines .inner)) ≤ 2 * length (S·Timetable .map (now (store .entry)))) ⌝ }
         ensures set { λ r. ⌜ (isOk r ≡ true → (now (self .exit) .station ≡ Some (now (station .entry))) × (now (self .exit) .day ≡ day)) ⌝ }
         ensures unchanged { λ r. ⌜ (isOk r ≡ false → now (self .exit) ≡ now (self .entry)) ⌝ }
         ensures same { λ _. ⌜ now (store .exit) ≡ now (store .entry) ⌝ }

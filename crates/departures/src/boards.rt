@@ -29,7 +29,11 @@ pub struct Wanted<'a> {
 // A line that no board has, for slots that hold nothing yet.
 pub fn empty_line() -> Line {
     Line {
-        key: LineKey { minute: 0, uid: 0, place: 0 },
+        key: LineKey {
+            minute: 0,
+            uid: 0,
+            place: 0,
+        },
         platform: *b"   ",
         destination: *b"       ",
         train: *b"    ",
@@ -95,7 +99,10 @@ fn print_line(rt: &LibcRuntime, line: &Line) -> Result<(), AnyError> {
     let platform = Text(&line.platform);
     let operator = Text(&line.operator);
     let train = Text(&line.train);
-    println!(rt, "{hours:02}:{minutes:02} {destination} platform {platform} operator {operator} identity {train}")?;
+    println!(
+        rt,
+        "{hours:02}:{minutes:02} {destination} platform {platform} operator {operator} identity {train}"
+    )?;
     Ok(())
 }
 
@@ -114,7 +121,13 @@ fn print_lines(rt: &LibcRuntime, shown: &mut Board, most: usize) -> Result<(), A
 }
 
 // Turns a board to what is wanted and prints it, or why it cannot be turned.
-pub fn print_board<S: Store>(rt: &LibcRuntime, store: &mut S, slots: &mut [Line], wanted: Wanted, refused: u64) -> Result<(), AnyError> {
+pub fn print_board<S: Store>(
+    rt: &LibcRuntime,
+    store: &mut S,
+    slots: &mut [Line],
+    wanted: Wanted,
+    refused: u64,
+) -> Result<(), AnyError> {
     let Some((day, _)) = date(wanted.date.as_bytes()) else {
         return print_refused(rt, Refusal::NoSuchBoard);
     };
@@ -124,9 +137,46 @@ pub fn print_board<S: Store>(rt: &LibcRuntime, store: &mut S, slots: &mut [Line]
     if let Err(fault) = shown.turn(store, station.as_slice(), u32::from(day)) {
         return print_refused(rt, fault.refusal);
     }
-    let Wanted { store: kind, station: name, date: when } = wanted;
+    let Wanted {
+        store: kind,
+        station: name,
+        date: when,
+    } = wanted;
     let held = store.count();
     let capacity = store.capacity();
-    println!(rt, "board {name} {when}, store {kind}: {held} of {capacity} schedules, refused {refused}")?;
+    println!(
+        rt,
+        "board {name} {when}, store {kind}: {held} of {capacity} schedules, refused {refused}"
+    )?;
     print_lines(rt, &mut shown, most)
+}
+
+// Turns a board to what is wanted so many times, and prints how many lines it has.
+pub fn print_turns<S: Store>(
+    rt: &LibcRuntime,
+    store: &mut S,
+    slots: &mut [Line],
+    wanted: Wanted,
+    times: u64,
+) -> Result<(), AnyError> {
+    let Some((day, _)) = date(wanted.date.as_bytes()) else {
+        return print_refused(rt, Refusal::NoSuchBoard);
+    };
+    let station = filled(rt, wanted.station)?;
+    let most = slots.len();
+    let mut shown = Board::new(slots);
+    for _ in 0..times {
+        if let Err(fault) = shown.turn(store, station.as_slice(), u32::from(day)) {
+            return print_refused(rt, fault.refusal);
+        }
+    }
+    let mut lines: u64 = 0;
+    for place in 0..most {
+        if shown.tell(place).is_none() {
+            break;
+        }
+        lines = lines.saturating_add(1);
+    }
+    println!(rt, "turns {times}: lines {lines}")?;
+    Ok(())
 }

@@ -16,7 +16,8 @@ mod keeping;
 mod rows;
 mod words;
 
-const USAGE: &str = "usage: departures rows FILE... | departures stores CAPACITY FILE... | departures board STORE CAPACITY STATION DATE FILE...";
+const USAGE: &str =
+    "usage: departures rows FILE... | departures stores CAPACITY FILE... | departures board STORE CAPACITY STATION DATE FILE...";
 
 // How many slots may be asked for.
 const MOST_SLOTS: usize = 65_536;
@@ -52,26 +53,57 @@ fn slots_in(capacity: &str) -> Result<usize, AnyError> {
     Ok(slots)
 }
 
-fn run_board_on<S: Store>(rt: &LibcRuntime, store: &mut S, wanted: boards::Wanted, names: &[String]) -> Result<(), AnyError> {
+// Loads the files into a store, and prints the board, or turns it so many times.
+fn run_board_on<S: Store>(
+    rt: &LibcRuntime,
+    store: &mut S,
+    wanted: boards::Wanted,
+    times: Option<u64>,
+    names: &[String],
+) -> Result<(), AnyError> {
     let mut refused: u64 = 0;
     for name in names {
         refused = refused.saturating_add(boards::load_file(rt, store, name.as_str())?);
     }
     let mut lines = vec![in rt.alloc(); boards::empty_line(); 2 * store.capacity()]?;
-    boards::print_board(rt, store, lines.as_mut_slice(), wanted, refused)
+    match times {
+        Some(times) => boards::print_turns(rt, store, lines.as_mut_slice(), wanted, times),
+        None => boards::print_board(rt, store, lines.as_mut_slice(), wanted, refused),
+    }
 }
 
-fn run_board(rt: &LibcRuntime, capacity: &str, wanted: boards::Wanted, names: &[String]) -> Result<(), AnyError> {
+fn run_board(
+    rt: &LibcRuntime,
+    capacity: &str,
+    wanted: boards::Wanted,
+    times: Option<u64>,
+    names: &[String],
+) -> Result<(), AnyError> {
     let blank = keeping::empty_record();
     let mut slots = vec![in rt.alloc(); blank; slots_in(capacity)?]?;
     match wanted.store {
         "table" => {
             let mut store = Table::new(slots.as_mut_slice());
-            run_board_on(rt, &mut store, wanted, names)
+            run_board_on(rt, &mut store, wanted, times, names)
         }
         "bag" => {
             let mut store = Bag::new(slots.as_mut_slice());
-            run_board_on(rt, &mut store, wanted, names)
+            run_board_on(rt, &mut store, wanted, times, names)
+        }
+        _ => Err(USAGE.into()),
+    }
+}
+
+// A board that words ask for: a store, a capacity, a station, a date and files.
+fn run_wanted(rt: &LibcRuntime, times: Option<u64>, words: &[String]) -> Result<(), AnyError> {
+    match words {
+        [store, capacity, station, date, names @ ..] if !names.is_empty() => {
+            let wanted = boards::Wanted {
+                store: store.as_str(),
+                station: station.as_str(),
+                date: date.as_str(),
+            };
+            run_board(rt, capacity.as_str(), wanted, times, names)
         }
         _ => Err(USAGE.into()),
     }
@@ -79,13 +111,16 @@ fn run_board(rt: &LibcRuntime, capacity: &str, wanted: boards::Wanted, names: &[
 
 fn run_task(rt: &LibcRuntime, words: &[String]) -> Result<(), AnyError> {
     match words {
-        [command, names @ ..] if command.as_str() == "rows" && !names.is_empty() => run_rows(rt, names),
+        [command, names @ ..] if command.as_str() == "rows" && !names.is_empty() => run_rows(
+            rt,
+            names,
+        ),
         [command, capacity, names @ ..] if command.as_str() == "stores" && !names.is_empty() => {
             run_stores(rt, capacity.as_str(), names)
         }
-        [command, store, capacity, station, date, names @ ..] if command.as_str() == "board" && !names.is_empty() => {
-            let wanted = boards::Wanted { store: store.as_str(), station: station.as_str(), date: date.as_str() };
-            run_board(rt, capacity.as_str(), wanted, names)
+        [command, rest @ ..] if command.as_str() == "board" => run_wanted(rt, None, rest),
+        [command, times, rest @ ..] if command.as_str() == "turns" => {
+            run_wanted(rt, Some(times.as_str().parse::<u64>()?), rest)
         }
         _ => Err(USAGE.into()),
     }

@@ -33,9 +33,9 @@ same-held m r s h i e = some-is r s (sym h ∙ (ap (scheduleOf m) e ∙ i))
 both-outrank : (r s : Record) → Outranks r s → Outranks s r → (rankOf (r .key .stp) ≡ rankOf (s .key .stp)) × (r .key .from ≡ s .key .from)
 both-outrank r s p q =
     ⊎-elim
-      (λ l. ⊎-elim (λ k. absurd (omega arith)) (λ k. absurd (let a = k .0 in omega arith)) q)
-      (λ l. ⊎-elim (λ k. absurd (let a = l .0 in omega arith)) (λ k. (l .0, let a = l .1 in let b = k .1 in omega arith)) q)
-      p
+    (λ l. ⊎-elim (λ k. absurd (omega arith)) (λ k. absurd (let a = k .0 in omega arith)) q)
+    (λ l. ⊎-elim (λ k. absurd (let a = l .0 in omega arith)) (λ k. (l .0, let a = l .1 in let b = k .1 in omega arith)) q)
+    p
 
 same-key : {u v f g : ℕ} {s t : Stp} → u ≡ v → f ≡ g → s ≡ t → _≡_ {A = Key} (record { uid = u; from = f; stp = s }) (record { uid = v; from = g; stp = t })
 same-key a b c = cc
@@ -68,7 +68,7 @@ module _ (m : List Record) (uid day : ℕ) (c : Record) (is : IsMap m) (off : co
   -- a candidate has another key than a schedule that does not cover the day
   apart : (s : Record) → Candidate m uid day s → keyOf c ≡ keyOf s → ⊥
   apart s p e =
-    both-ways (covering c day) off (ap (λ (r : Record). covering r day) (same-held m c s held (p .there) e) ∙ covers-it m uid day s p)
+      both-ways (covering c day) off (ap (λ (r : Record). covering r day) (same-held m c s held (p .there) e) ∙ covers-it m uid day s p)
 
   gone : (s : Record) → Candidate (withoutKey m (keyOf c)) uid day s → keyOf c ≡ keyOf s → ⊥
   gone s p e = none-some s (sym (keep .removed m (keyOf c) is) ∙ (ap (scheduleOf (withoutKey m (keyOf c))) e ∙ p .there))
@@ -80,9 +80,10 @@ module _ (m : List Record) (uid day : ℕ) (c : Record) (is : IsMap m) (off : co
   back s p = moved (withoutKey m (keyOf c)) m uid day s (keep .removed-others m (keyOf c) (keyOf s) is (gone s p)) p
 
   unchanged : (r : Record) → (InForce m uid day r → InForce (withoutKey m (keyOf c)) uid day r) × (InForce (withoutKey m (keyOf c)) uid day r → InForce m uid day r)
-  unchanged r =
-    ( (λ p. record { candidate = away r (p .candidate); first = λ s q. p .first s (back s q) })
-    , (λ p. record { candidate = back r (p .candidate); first = λ s q. p .first s (away s q) }) )
+  unchanged r = (
+    (λ p. record { candidate = away r (p .candidate); first = λ s q. p .first s (back s q) }),
+    (λ p. record { candidate = back r (p .candidate); first = λ s q. p .first s (away s q) }),
+  )
 
 pub own-days : Only-on-its-days
 own-days m uid day c is off held r = unchanged m uid day c is off held r

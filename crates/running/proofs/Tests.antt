@@ -32,11 +32,11 @@ passes test uid day [] k s p h c = absurd (none-some s h)
 passes test uid day (y ∷ ys) k s p h c =
     let q = and-parts (not (eqb (y .key .uid) uid && covering y day) || test y) (passing test uid day ys) p in
     ⊎-elim
-      (λ t.
-        let e : s ≡ y = some-is s y (sym h ∙ cond-true (same keyBefore (keyOf y) k) (Some y) (scheduleOf ys k) t) in
-        ap test e ∙ (sym (ap (λ (b : Bool). not b || test y) (sym (ap (λ (r : Record). eqb (r .key .uid) uid && covering r day) e) ∙ c)) ∙ q .0))
-      (λ f. passes test uid day ys k s (q .1) (sym (cond-false (same keyBefore (keyOf y) k) (Some y) (scheduleOf ys k) f) ∙ h) c)
-      (cases-bool (same keyBefore (keyOf y) k))
+    (λ t.
+    let e : s ≡ y = some-is s y (sym h ∙ cond-true (same keyBefore (keyOf y) k) (Some y) (scheduleOf ys k) t) in
+    ap test e ∙ (sym (ap (λ (b : Bool). not b || test y) (sym (ap (λ (r : Record). eqb (r .key .uid) uid && covering r day) e) ∙ c)) ∙ q .0))
+    (λ f. passes test uid day ys k s (q .1) (sym (cond-false (same keyBefore (keyOf y) k) (Some y) (scheduleOf ys k) f) ∙ h) c)
+    (cases-bool (same keyBefore (keyOf y) k))
 
 counts : (m : List Record) (uid day : ℕ) (s : Record) → Candidate m uid day s → (eqb (s .key .uid) uid && covering s day) ≡ true
 counts m uid day s c = and-from (eqb (s .key .uid) uid) (covering s day) (eq-eqb (s .key .uid) uid (c .train)) (covers-it m uid day s c)

@@ -33,9 +33,9 @@ pub found-key : (m : List Record) (k : Key) (r : Record) → scheduleOf m k ≡ 
 found-key [] k r h = absurd (none-some r h)
 found-key (y ∷ ys) k r h =
     ⊎-elim
-      (λ t. ap keyOf (some-is r y (sym h ∙ cond-true (same keyBefore (keyOf y) k) (Some y) (scheduleOf ys k) t)) ∙ same-is keyBefore keyOf key-lawful (keyOf y) k t)
-      (λ f. found-key ys k r (sym (cond-false (same keyBefore (keyOf y) k) (Some y) (scheduleOf ys k) f) ∙ h))
-      (cases-bool (same keyBefore (keyOf y) k))
+    (λ t. ap keyOf (some-is r y (sym h ∙ cond-true (same keyBefore (keyOf y) k) (Some y) (scheduleOf ys k) t)) ∙ same-is keyBefore keyOf key-lawful (keyOf y) k t)
+    (λ f. found-key ys k r (sym (cond-false (same keyBefore (keyOf y) k) (Some y) (scheduleOf ys k) f) ∙ h))
+    (cases-bool (same keyBefore (keyOf y) k))
 
 pub held-has : (m : List Record) (r : Record) → Holds m r → Has m (keyOf r)
 held-has m r h = ap isSome h
@@ -59,28 +59,28 @@ from-small r v =
 pub outranking-true : (r s : Record) → outranking r s ≡ true → Outranks r s
 outranking-true r s h =
     ⊎-elim
-      (λ t. inl (ltb-true (rankOf (r .key .stp)) (rankOf (s .key .stp)) t))
-      (λ t. let p = and-parts (eqb (rankOf (r .key .stp)) (rankOf (s .key .stp))) _ t in inr (eqb-true _ _ (p .0), leb-true _ _ (p .1)))
-      (or-cases (ltb (rankOf (r .key .stp)) (rankOf (s .key .stp))) _ h)
+    (λ t. inl (ltb-true (rankOf (r .key .stp)) (rankOf (s .key .stp)) t))
+    (λ t. let p = and-parts (eqb (rankOf (r .key .stp)) (rankOf (s .key .stp))) _ t in inr (eqb-true _ _ (p .0), leb-true _ _ (p .1)))
+    (or-cases (ltb (rankOf (r .key .stp)) (rankOf (s .key .stp))) _ h)
 
 pub outranking-false : (r s : Record) → outranking r s ≡ false → Outranks s r
 outranking-false r s h =
     let p = or-parts (ltb (rankOf (r .key .stp)) (rankOf (s .key .stp))) _ h in
     let high = ltb-false (rankOf (r .key .stp)) (rankOf (s .key .stp)) (p .0) in
     ⊎-elim
-      (λ e. ⊎-elim
-        (λ f. absurd (eqb-false (rankOf (r .key .stp)) (rankOf (s .key .stp)) f e))
-        (λ f. inr (sym e, let l = leb-false (s .key .from) (r .key .from) f in omega arith))
-        (and-cases (eqb (rankOf (r .key .stp)) (rankOf (s .key .stp))) _ (p .1)))
-      (λ n. ⊎-elim (λ l. absurd (omega arith)) (λ l. inl l) n)
-      (cases-order (rankOf (r .key .stp)) (rankOf (s .key .stp)))
+    (λ e. ⊎-elim
+    (λ f. absurd (eqb-false (rankOf (r .key .stp)) (rankOf (s .key .stp)) f e))
+    (λ f. inr (sym e, let l = leb-false (s .key .from) (r .key .from) f in omega arith))
+    (and-cases (eqb (rankOf (r .key .stp)) (rankOf (s .key .stp))) _ (p .1)))
+    (λ n. ⊎-elim (λ l. absurd (omega arith)) (λ l. inl l) n)
+    (cases-order (rankOf (r .key .stp)) (rankOf (s .key .stp)))
 
 pub outranks-trans : (a b c : Record) → Outranks a b → Outranks b c → Outranks a c
 outranks-trans a b c p q =
     ⊎-elim
-      (λ l. ⊎-elim (λ k. inl (omega arith)) (λ k. inl (let e = k .0 in omega arith)) q)
-      (λ l. ⊎-elim (λ k. inl (let e = l .0 in omega arith)) (λ k. inr (l .0 ∙ k .0, let e = l .1 in let f = k .1 in omega arith)) q)
-      p
+    (λ l. ⊎-elim (λ k. inl (omega arith)) (λ k. inl (let e = k .0 in omega arith)) q)
+    (λ l. ⊎-elim (λ k. inl (let e = l .0 in omega arith)) (λ k. inr (l .0 ∙ k .0, let e = l .1 in let f = k .1 in omega arith)) q)
+    p
 
 pub outranks-self : (r : Record) → Outranks r r
 outranks-self r = inr (refl, omega arith)

@@ -9,7 +9,6 @@ ghost use Rattle.schedule.specs.declared.key.Key.{Key};
 ghost use Rattle.schedule.specs.Keys.{keyBefore};
 ghost use Rattle.timetable.specs.Timetables.{scheduleOf};
 ghost use Rattle.running.specs.Running.{Candidate, InForce, covering, outranking, takes};
-
 use forms::letters::Stp;
 use schedule::key::Key;
 use schedule::order::rank;
@@ -50,15 +49,37 @@ fn next_in_train(key: Key) -> Key
 {
     let Key { uid, from, stp } = key;
     match stp {
-        Stp::Cancellation => Key { uid, from, stp: Stp::ShortTerm },
-        Stp::ShortTerm => Key { uid, from, stp: Stp::Overlay },
-        Stp::Overlay => Key { uid, from, stp: Stp::Permanent },
-        Stp::Permanent => Key { uid, from: from + 1, stp: Stp::Cancellation },
+        Stp::Cancellation => Key {
+            uid,
+            from,
+            stp: Stp::ShortTerm,
+        },
+        Stp::ShortTerm => Key {
+            uid,
+            from,
+            stp: Stp::Overlay,
+        },
+        Stp::Overlay => Key {
+            uid,
+            from,
+            stp: Stp::Permanent,
+        },
+        Stp::Permanent => Key {
+            uid,
+            from: from + 1,
+            stp: Stp::Cancellation,
+        },
     }
 }
 
 // Looks at the schedule of a key, and keeps it as the best where it takes its place.
-fn consider<T: Timetable>(timetable: &mut T, key: Key, day: u16, found: bool, best: &mut Schedule) -> bool
+fn consider<T: Timetable>(
+    timetable: &mut T,
+    key: Key,
+    day: u16,
+    found: bool,
+    best: &mut Schedule,
+) -> bool
     ensures found { λ r. ⌜ ((h : Record) → scheduleOf (T·Timetable .map (now (timetable .entry))) key ≡ Some h → r ≡ (found || takes h day found (now (best .entry) .plain))) ⌝ }
     ensures best { λ r. ⌜ ((h : Record) → scheduleOf (T·Timetable .map (now (timetable .entry))) key ≡ Some h → now (best .exit) .plain ≡ cond (takes h day found (now (best .entry) .plain)) h (now (best .entry) .plain)) ⌝ }
     ensures kept { λ r. ⌜ (r ≡ false → found ≡ false) ⌝ }
@@ -86,7 +107,11 @@ pub fn in_force<T: Timetable>(timetable: &mut T, uid: u32, day: u16, place: &mut
     ensures same { λ _. ⌜ now (timetable .exit) ≡ now (timetable .entry) ⌝ }
 {
     let mut found = false;
-    let mut probe = Key { uid, from: 0, stp: Stp::Cancellation };
+    let mut probe = Key {
+        uid,
+        from: 0,
+        stp: Stp::Cancellation,
+    };
     while let Some(key) = timetable.not_before(probe) {
         if key.uid != uid {
             break;

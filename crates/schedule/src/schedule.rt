@@ -27,7 +27,11 @@ impl Schedule {
             platform: *b"   ",
         };
         let plain = Record {
-            key: Key { uid: 0, from: 0, stp: Stp::Permanent },
+            key: Key {
+                uid: 0,
+                from: 0,
+                stp: Stp::Permanent,
+            },
             to: 0,
             days: [false; 7],
             train: *b"    ",

@@ -51,6 +51,20 @@ impl Request {
         self.print_over(&store, refused, out)
     }
 
+    /// Fills a store from the files of these names, works the board out so many times, and prints
+    /// how many lines it has.
+    pub fn print_turns(&self, times: u64, names: &[OsString], out: &mut impl Write) -> io::Result<()> {
+        let (store, _) = stores::filled(self.slots, names)?;
+        let (Some(station), Some(day)) = (station_of(&self.station), day_of(&self.date)) else {
+            return writeln!(out, "{REFUSED}");
+        };
+        let mut count = 0;
+        for _ in 0..times {
+            count = std::hint::black_box(lines::lines(store.schedules(), &station, day)).len();
+        }
+        writeln!(out, "turns {times}: lines {count}")
+    }
+
     fn print_over(&self, store: &Store, refused: Refused, out: &mut impl Write) -> io::Result<()> {
         let (Some(station), Some(day)) = (station_of(&self.station), day_of(&self.date)) else {
             return writeln!(out, "{REFUSED}");

@@ -39,8 +39,8 @@ add-calls-requires g c κs =
 pub returns-in-rest : need.returns-in-rest
 returns-in-rest g c = record {
   trained = trained-calls (g .T·Timetable .map (c .args .timetable .now)) (c .args .station .now) (c .args .day) (c .args .uid) (items (c .args .lines .now .inner)) (c .to-record-plain .result) _
-    (subst (λ (r : Record). InForce (g .T·Timetable .map (c .args .timetable .now)) (c .args .uid) (c .args .day) r) (sym (c .to-record-plain .ensures)) (c .in-force .ensures .some (c .if-not-in-force .left)))
-    (runs-if _ (c .in-rest .not-Cancellation)) (ap isSchedule (c .to-record-plain .ensures) ∙ c .in-force .last .place .valid) (c .add-calls .ensures .added);
+      (subst (λ (r : Record). InForce (g .T·Timetable .map (c .args .timetable .now)) (c .args .uid) (c .args .day) r) (sym (c .to-record-plain .ensures)) (c .in-force .ensures .some (c .if-not-in-force .left)))
+      (runs-if _ (c .in-rest .not-Cancellation)) (ap isSchedule (c .to-record-plain .ensures) ∙ c .in-force .last .place .valid) (c .add-calls .ensures .added);
   order = c .add-calls .ensures .order;
   room = c .add-calls .ensures .room;
   same = c .in-force .ensures .same;

@@ -50,21 +50,23 @@ loop-key-again g c =
     let trained = subst (λ (m : List Record). Trained m (c .args .station .now) (c .args .day) (c .in-Some .key .uid) (items (c .loop-key .lines .inner)) (items (c .add-train .last .lines .inner))) (ap (g .T·Timetable .map) (c .in-Some .ensures tt .same ∙ c .loop-key .inv .3)) (c .add-train .ensures .trained) in
     let less = falls (g .T·Timetable .map (c .args .timetable .now)) is (c .loop-key .uid) (c .in-Some .key) value in
     let few = c .loop-key .inv .4 in
-    let two = trained .few in
-    ( more (g .T·Timetable .map (c .args .timetable .now)) (c .args .station .now) (c .args .day) (c .loop-key .uid) (c .in-Some .key) (step (g .T·Timetable .map (c .args .timetable .now)) is (c .loop-key .uid) (c .in-Some .key) value) (items (c .loop-key .lines .inner)) (c .loop-key .inv .0) (items (c .add-train .last .lines .inner)) trained
-    , c .add-train .ensures .order
-    , c .add-train .ensures .room ∙ c .loop-key .inv .2
-    , c .add-train .ensures .same ∙ (c .in-Some .ensures tt .same ∙ c .loop-key .inv .3)
-    , omega arith )
+    let two = trained .few in (
+      more (g .T·Timetable .map (c .args .timetable .now)) (c .args .station .now) (c .args .day) (c .loop-key .uid) (c .in-Some .key) (step (g .T·Timetable .map (c .args .timetable .now)) is (c .loop-key .uid) (c .in-Some .key) value) (items (c .loop-key .lines .inner)) (c .loop-key .inv .0) (items (c .add-train .last .lines .inner)) trained,
+      c .add-train .ensures .order,
+      c .add-train .ensures .room ∙ c .loop-key .inv .2,
+      c .add-train .ensures .same ∙ (c .in-Some .ensures tt .same ∙ c .loop-key .inv .3),
+      omega arith,
+    )
 
 pub returns : need.returns
 returns g c =
     let same = ap (g .T·Timetable .map) (c .loop-key .inv .3) in
     record {
       board = whole (g .T·Timetable .map (c .args .timetable .now)) (c .args .station .now) (c .args .day) (c .loop-key .uid) (items (c .loop-key .lines .inner))
-        (subst (λ (m : List Record). IsMap m) same (c .in-rest .ensures tt .is-map))
-        (c .in-rest .ensures tt .value ∙ ap (λ (m : List Record). notBefore m (firstOf (c .loop-key .uid))) same)
-        (c .loop-key .inv .0) (c .loop-key .inv .1 .1);
+          (subst (λ (m : List Record). IsMap m) same (c .in-rest .ensures tt .is-map))
+          (c .in-rest .ensures tt .value ∙ ap (λ (m : List Record). notBefore m (firstOf (c .loop-key .uid))) same)
+          (c .loop-key .inv .0) (c .loop-key .inv .1 .1);
+      few = (let n = c .loop-key .inv .4 in omega arith);
       order = c .loop-key .inv .1;
       room = c .loop-key .inv .2;
       same = c .in-rest .ensures tt .same ∙ c .loop-key .inv .3;

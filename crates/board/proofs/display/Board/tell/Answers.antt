@@ -9,7 +9,9 @@ returns-then-place-self c =
     let f = c .args .self .now .fits in
     let long = length-take-le (c .args .self .now .lines .inner .len) (now (c .args .self .now .lines .inner .slots)) f in
     record {
-      line = ( omega arith
-             , λ d. getD-default (now (c .args .self .now .lines .inner .slots)) (c .args .place) _ d (omega arith) ∙ sym (getD-take (c .args .self .now .lines .inner .len) (now (c .args .self .now .lines .inner .slots)) (c .args .place) d (c .if-place-self .taken)) );
+      line = (
+        omega arith,
+        λ d. getD-default (now (c .args .self .now .lines .inner .slots)) (c .args .place) _ d (omega arith) ∙ sym (getD-take (c .args .self .now .lines .inner .len) (now (c .args .self .now .lines .inner .slots)) (c .args .place) d (c .if-place-self .taken)),
+      );
       same = refl;
     }
