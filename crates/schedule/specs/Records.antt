@@ -3,7 +3,7 @@ use mathlib.Core.Bool.{Bool, true, false, _&&_, cond}
 use mathlib.Core.List.{List, [], _∷_}
 use Prim.Native.Nat.{ℕ, _+_}
 use lib.Dec.{leb, ltb, eqb}
-use lib.ListN.{take, drop, length}
+use lib.ListN.{take, drop, length, replicate}
 use Rattle.std.specs.declared.option.Option.{Option}
 use Rattle.std.specs.declared.option.Option.the-variants.{Some, None}
 use Rattle.std.specs.shelf.Text.{sameBytes}
@@ -58,6 +58,24 @@ abbrev pub isFiller : Location → Bool
 isFiller c =
     sameBytes (c .tiploc) sevenBlanks
     && (eqb (c .suffix) 32 && (noTime (c .arrival) && (noTime (c .departure) && sameBytes (c .platform) threeBlanks)))
+
+-- that call
+abbrev pub filler : Location
+filler = record { tiploc = sevenBlanks; suffix = 32; arrival = None; departure = None; platform = threeBlanks }
+
+-- a permanent schedule of day 0 that never runs, without calls, and blank
+abbrev pub blankRecord : Record
+blankRecord =
+    record {
+      key = record { uid = 0; from = 0; stp = Permanent };
+      to = 0;
+      days = replicate 7 false;
+      train = 32 ∷ threeBlanks;
+      operator = twoBlanks;
+      destination = sevenBlanks;
+      calls = replicate 48 filler;
+      count = 0;
+    }
 
 abbrev pub isCancellation : Stp → Bool
 isCancellation Cancellation = true

@@ -1,7 +1,7 @@
 // A record that was found to be a schedule.
 ghost use mathlib.Core.Path.{_≡_};
 ghost use mathlib.Core.Bool.{true};
-ghost use Rattle.schedule.specs.Records.{isSchedule};
+ghost use Rattle.schedule.specs.Records.{isSchedule, blankRecord};
 use crate::key::Key;
 use crate::record::Record;
 use cif::content::Location;
@@ -15,9 +15,9 @@ pub struct Schedule {
 }
 
 impl Schedule {
-    // A schedule to be written over: a permanent one without calls, of one day.
+    // A schedule to be written over: a permanent one of day 0 that never runs, without calls, and blank.
     pub fn blank() -> Schedule
-        ensures { λ r. ⌜ r .plain .count ≡ 0 ⌝ }
+        ensures { λ r. ⌜ r .plain ≡ blankRecord ⌝ }
     {
         let filler = Location {
             tiploc: *b"       ",
