@@ -1,5 +1,5 @@
 -- The overlay: a map with pending transactions done to it in order.
-use Rattle.std.specs.Prelude.{◌≡◌, ℕ, ◌≤◌, Bool, true, false, cond, List, [], ◌∷◌, ◌++◌, length, take, Some, None, fold, Option}
+use Rattle.std.specs.Prelude.{◌≡◌, ℕ, ◌≤◌, Bool, true, false, cond, max, List, [], ◌∷◌, ◌++◌, length, take, Some, None, fold, Option}
 use Rattle.maps.specs.Orders.{same}
 use Rattle.schedule.specs.declared.key.Key.{Key}
 use Rattle.schedule.specs.declared.record.Record.{Record}
@@ -42,3 +42,7 @@ last_from k o (c ∷ cs) = last_from k (cond (same key_before (changed_key c) k)
 
 abbrev pub last_on : Key → List Change → Option Change
 last_on k cs = last_from k None cs
+
+-- how many keys an overlay may have: as many as its store, or as it has, where those are more
+abbrev pub room_over : {S : Type 0} → (S → List Record) → (S → ℕ) → Overlay S → ℕ
+room_over map capacity o = max (capacity o.store) (length (overlay_of map o))

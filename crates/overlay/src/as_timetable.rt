@@ -1,5 +1,5 @@
 // The overlay as a timetable.
-ghost use Rattle.overlay.specs.Overlays.{overlay_of};
+ghost use Rattle.overlay.specs.Overlays.{overlay_of, room_over};
 
 use crate::least::{first_untouched, least_set};
 use crate::overlay::Overlay;
@@ -11,7 +11,7 @@ use timetable::{Store, Timetable};
 impl<S: Store> Timetable for Overlay<S> {
     ghost map = { λ o. overlay_of S.Timetable.map o };
 
-    ghost capacity = { λ o. S.Timetable.capacity o.store };
+    ghost capacity = { λ o. room_over S.Timetable.map S.Timetable.capacity o };
 
     fn count(&mut self) -> usize {
         count_after(&mut self.store, self.pending.as_slice())

@@ -10,7 +10,7 @@ use Rattle.overlay.proofs.Lasts.{no_change}
 use Rattle.overlay.proofs.Dones.{some_there}
 use Rattle.overlay.proofs.Counts.{lawful_take, count_more}
 use Rattle.overlay.proofs.questions.count_after.Goals as goal
-use Rattle.overlay.proofs.questions.count_after.Goals.{then-sets+then-not_before, then-sets+else-not_before, else-sets+then-before, else-sets+else-before}
+use Rattle.overlay.proofs.questions.count_after.Goals.{then-sets+then-not-before, then-sets+else-not-before, else-sets+then-before, else-sets+else-before}
 
 pub has_after-before-requires : goal.has_after-before-requires
 has_after-before-requires g c = record { lawful = lawful_take c.loop-i.i c.args.changes.now c.requires.lawful }
@@ -53,16 +53,16 @@ loop-i-preserved g c =
     let b : c.sets.result ≡ is_some (leaves (get_or cs i no_change)) = c.sets.ensures in
     let e : c.if-sets.count ≡ cond (is_some (leaves (get_or cs i no_change))) (cond r n (n + 1)) (cond r (n - 1) n) =
     elim c.if-sets.branch [
-      | then-sets+then-not_before w ↦ w.count-is ∙ sym (cond-true _ _ _ (sym b ∙ w.if-sets.true) ∙ cond-false r _ _ w.if-not_before.true)
-      | then-sets+else-not_before w ↦ w.count-is ∙ sym (cond-true _ _ _ (sym b ∙ w.if-sets.true) ∙ cond-true r _ _ w.if-not_before.false)
+      | then-sets+then-not-before w ↦ w.count-is ∙ sym (cond-true _ _ _ (sym b ∙ w.if-sets.true) ∙ cond-false r _ _ w.if-not-before.true)
+      | then-sets+else-not-before w ↦ w.count-is ∙ sym (cond-true _ _ _ (sym b ∙ w.if-sets.true) ∙ cond-true r _ _ w.if-not-before.false)
       | else-sets+then-before w ↦ w.count-is ∙ sym (cond-false _ _ _ (sym b ∙ w.if-sets.false) ∙ cond-true r _ _ w.if-before.true)
       | else-sets+else-before w ↦ w.count-is ∙ sym (cond-false _ _ _ (sym b ∙ w.if-sets.false) ∙ cond-false r _ _ w.if-before.false)
     ] in
     let few : c.if-sets.count ≤ 65535 + (c.loop-i.i + 1) =
     (let i = c.loop-i.invariant.2 in
     elim c.if-sets.branch [
-      | then-sets+then-not_before w ↦ omega (arith, w.count-is)
-      | then-sets+else-not_before w ↦ omega (arith, w.count-is)
+      | then-sets+then-not-before w ↦ omega (arith, w.count-is)
+      | then-sets+else-not-before w ↦ omega (arith, w.count-is)
       | else-sets+then-before w ↦ omega (arith, w.count-is)
       | else-sets+else-before w ↦ omega (arith, w.count-is)
     ]) in

@@ -7,12 +7,12 @@ use Rattle.maps.specs.Orders.{Lawful}
 use Rattle.loose.proofs.loose.Loose.remove.Given as given
 use Rattle.loose.proofs.loose.Loose.remove.Goals as goal
 
-lawful : (g : given.Over) → Lawful g.Key.KeyOrder.before
-lawful g = record { irreflexive = g.met.Key.KeyOrder.irreflexive; transitive = g.met.Key.KeyOrder.transitive; total = g.met.Key.KeyOrder.total }
+lawful : (g : given.Over) → Lawful g.E.Key.KeyOrder.before
+lawful g = record { irreflexive = g.met.E.Key.KeyOrder.irreflexive; transitive = g.met.E.Key.KeyOrder.transitive; total = g.met.E.Key.KeyOrder.total }
 
 pub returns-in-Some : goal.returns-in-Some
 returns-in-Some g c =
-    let done = λ (ok : Apart g.Key.KeyOrder.before g.E.Keyed.keyed c.args.self.now.inner). taken_out g.Key.KeyOrder.before g.E.Keyed.keyed (lawful g) c.args.self.now.inner c.place_of.new.pile c.in-Some.ensures.same ok.0 c.take_out.new.pile c.args.key c.in-Some.place c.in-Some.ensures.place c.take_out.ensures.items ok.1 in
+    let done = λ (ok : Apart g.E.Key.KeyOrder.before g.E.Keyed.keyed c.args.self.now.inner). taken_out g.E.Key.KeyOrder.before g.E.Keyed.keyed (lawful g) c.args.self.now.inner c.place_of.new.pile c.in-Some.ensures.same ok.0 c.take_out.new.pile c.args.key c.in-Some.place c.in-Some.ensures.place c.take_out.ensures.items ok.1 in
     let p = ap (λ t. t.len) c.in-Some.ensures.same in
     let q = ap room c.in-Some.ensures.same in
     let z = c.take_out.ensures.rest.slots in
@@ -25,8 +25,8 @@ returns-in-Some g c =
 
 pub returns-in-None : goal.returns-in-None
 returns-in-None g c = record {
-  removed = λ ok. not_there g.Key.KeyOrder.before g.E.Keyed.keyed (lawful g) c.args.self.now.inner c.place_of.new.pile c.in-None.ensures.same ok.0 c.args.key c.in-None.ensures.place;
-  kept = λ ok. subst (Apart g.Key.KeyOrder.before g.E.Keyed.keyed) (sym c.in-None.ensures.same) ok;
+  removed = λ ok. not_there g.E.Key.KeyOrder.before g.E.Keyed.keyed (lawful g) c.args.self.now.inner c.place_of.new.pile c.in-None.ensures.same ok.0 c.args.key c.in-None.ensures.place;
+  kept = λ ok. subst (Apart g.E.Key.KeyOrder.before g.E.Keyed.keyed) (sym c.in-None.ensures.same) ok;
   unchanged = λ _. ap (λ x. record { inner = x }) c.in-None.ensures.same;
   rest = all_kept _ _ c.in-None.ensures.same;
 }

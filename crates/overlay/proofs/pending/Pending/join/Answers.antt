@@ -19,17 +19,13 @@ returns-then-place-ge-MOST c =
 pub invariant_of-self : goal.invariant_of-self
 invariant_of-self c =
     let long : length c.args.self.now.slots ≡ 32 = c.args.self.now.long in
-    let within : c.args.self.now.len < length c.args.self.now.slots = (let t = c.if-place-ge-MOST.false in omega arith) in (
-      length-set c.args.self.now.slots c.args.self.now.len c.to_change.result ∙ long,
-      (
-        (let t = c.if-place-ge-MOST.false in omega arith),
-        (
-          ap every_lawful (take_more_set c.args.self.now.slots c.args.self.now.len c.to_change.result within)
-              ∙ lawful_push (take c.args.self.now.len c.args.self.now.slots) c.to_change.result c.args.self.now.lawful c.to_change.ensures.lawful,
-          tt,
-        ),
-      ),
-    )
+    let within : c.args.self.now.len < length c.args.self.now.slots = (let t = c.if-place-ge-MOST.false in omega arith) in
+    record {
+      long = length-set c.args.self.now.slots c.args.self.now.len c.to_change.result ∙ long;
+      few = (let t = c.if-place-ge-MOST.false in omega arith);
+      lawful = ap every_lawful (take_more_set c.args.self.now.slots c.args.self.now.len c.to_change.result within)
+          ∙ lawful_push (take c.args.self.now.len c.args.self.now.slots) c.to_change.result c.args.self.now.lawful c.to_change.ensures.lawful;
+    }
 
 pub returns : goal.returns
 returns c =

@@ -9,19 +9,13 @@ pub invariant_of-self : goal.invariant_of-self
 invariant_of-self c =
     let kept = c.put.ensures.kept (c.args.self.now.fits, c.args.self.now.apart) in
     let same-slots = c.put.ensures.rest.slots in
-    let small = c.args.self.now.small in (
-      kept.0,
-      (
-        (omega arith),
-        (
-          kept.1,
-          (
-            puts_valid (map_of (in_any_order c.args.self.now.rows)) (map_of (in_any_order c.put.new.self)) _ _ _ (puts_equal (map_of (in_any_order c.args.self.now.rows)) (map_of (in_any_order c.put.new.self)) _ _ _ _ c.to_record.ensures (c.put.ensures.put (c.args.self.now.fits, c.args.self.now.apart))) c.args.self.now.valid c.args.schedule.valid,
-            tt,
-          ),
-        ),
-      ),
-    )
+    let small = c.args.self.now.small in
+    record {
+      fits = kept.0;
+      small = omega arith;
+      apart = kept.1;
+      valid = puts_valid (map_of (in_any_order c.args.self.now.rows)) (map_of (in_any_order c.put.new.self)) _ _ _ (puts_equal (map_of (in_any_order c.args.self.now.rows)) (map_of (in_any_order c.put.new.self)) _ _ _ _ c.to_record.ensures (c.put.ensures.put (c.args.self.now.fits, c.args.self.now.apart))) c.args.self.now.valid c.args.schedule.valid;
+    }
 
 pub returns : goal.returns
 returns c =

@@ -9,19 +9,13 @@ pub invariant_of-self : goal.invariant_of-self
 invariant_of-self c =
     let kept = c.remove.ensures.kept (c.args.self.now.fits, c.args.self.now.apart) in
     let same-slots = c.remove.ensures.rest.slots in
-    let small = c.args.self.now.small in (
-      kept.0,
-      (
-        (omega arith),
-        (
-          kept.1,
-          (
-            removes_valid (map_of (in_any_order c.args.self.now.rows)) (map_of (in_any_order c.remove.new.self)) _ _ (c.remove.ensures.removed (c.args.self.now.fits, c.args.self.now.apart)) c.args.self.now.valid,
-            tt,
-          ),
-        ),
-      ),
-    )
+    let small = c.args.self.now.small in
+    record {
+      fits = kept.0;
+      small = omega arith;
+      apart = kept.1;
+      valid = removes_valid (map_of (in_any_order c.args.self.now.rows)) (map_of (in_any_order c.remove.new.self)) _ _ (c.remove.ensures.removed (c.args.self.now.fits, c.args.self.now.apart)) c.args.self.now.valid;
+    }
 
 pub returns : goal.returns
 returns c =

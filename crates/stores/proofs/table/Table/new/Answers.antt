@@ -5,4 +5,9 @@ use Rattle.stores.specs.Tables.{rises}
 use Rattle.stores.proofs.table.Table.new.Goals as goal
 
 pub invariant_of-result : goal.invariant_of-result
-invariant_of-result c = (c.new-rows.ensures.fits, (cut_room c.args.slots.now c.min-most.result _ c.new-rows.ensures.room c.min-most.ensures, (ap rises c.new-rows.ensures.empty, (ap every_schedule c.new-rows.ensures.empty, tt))))
+invariant_of-result c = record {
+  fits = c.new-rows.ensures.fits;
+  small = cut_room c.args.slots.now c.min-most.result _ c.new-rows.ensures.room c.min-most.ensures;
+  rising = ap rises c.new-rows.ensures.empty;
+  valid = ap every_schedule c.new-rows.ensures.empty;
+}
