@@ -10,7 +10,7 @@ use Rattle.extract.proofs.Taken.{unread_row, operator_row, origin_row, intermedi
 use Rattle.extract.proofs.extract.Extract.take.Goals as goal
 
 pub take_schedule-requires : goal.take_schedule-requires
-take_schedule-requires g c = record { range = schedule_range c.args.row.now.bytes c.in_ok-schedule.schedule (sym c.in_ok-schedule.ensures) }
+take_schedule-requires g c = record { range = schedule_range c.args.row.now.bytes c.in_ok-schedule-in-Between-BasicSchedule.schedule (sym c.in_ok-schedule-in-Between-BasicSchedule.ensures) }
 
 pub returns-in-Between-LocationInsert : goal.returns-in-Between-LocationInsert
 returns-in-Between-LocationInsert g c =
@@ -72,73 +72,73 @@ returns-in-Running-ChangeEnRoute g c =
       reference = c.pass-in-Running-ChangeEnRoute.ensures.reference;
     }
 
-pub returns-in_ok-operator : goal.returns-in_ok-operator
-returns-in_ok-operator g c =
+pub returns-in_ok-operator-in-Begun-BasicExtra : goal.returns-in_ok-operator-in-Begun-BasicExtra
+returns-in_ok-operator-in-Begun-BasicExtra g c =
     let s = standing g.S.Timetable.map g.S.Timetable.capacity c.args.self.now c.args.overlay.now in
     let cs = pending_in c.args.overlay.now.pending in
     record {
-      told = λ _. told_by (seen c.take_operator.new.self cs) _ _ c.take_operator.result (operator_row s c.args.row.now.identity c.args.row.now.bytes c.in_ok-operator.field-0 c.in-Begun-BasicExtra.is-0 (sym c.in-Begun-BasicExtra.ensures) (sym c.in_ok-operator.ensures)) (c.take_operator.ensures.told cs);
+      told = λ _. told_by (seen c.take_operator.new.self cs) _ _ c.take_operator.result (operator_row s c.args.row.now.identity c.args.row.now.bytes c.in_ok-operator-in-Begun-BasicExtra.field-0 c.in-Begun-BasicExtra.is-0 (sym c.in-Begun-BasicExtra.ensures) (sym c.in_ok-operator-in-Begun-BasicExtra.ensures)) (c.take_operator.ensures.told cs);
       room = room_kept (is_ok c.take_operator.result) c.args.self.now.stage Extra c.take_operator.new.self.stage (length cs) (ap is_reading c.in-Begun-BasicExtra.is-0) c.take_operator.ensures.stage;
       unchanged = λ h. (c.take_operator.ensures.unchanged h, refl);
       store = refl;
       reference = c.take_operator.ensures.reference;
     }
 
-pub returns-in_ok-origin : goal.returns-in_ok-origin
-returns-in_ok-origin g c =
+pub returns-in_ok-origin-in-Begun-Origin : goal.returns-in_ok-origin-in-Begun-Origin
+returns-in_ok-origin-in-Begun-Origin g c =
     let s = standing g.S.Timetable.map g.S.Timetable.capacity c.args.self.now c.args.overlay.now in
     let cs = pending_in c.args.overlay.now.pending in
     record {
-      told = λ _. told_by (seen c.take_call.new.self cs) _ _ c.take_call.result (origin_row s c.args.row.now.identity c.args.row.now.bytes c.in_ok-origin.field-0 Begun c.in-Begun-Origin.is-0 (sym c.in-Begun-Origin.ensures) refl refl (sym c.in_ok-origin.ensures)) (c.take_call.ensures.told cs);
+      told = λ _. told_by (seen c.take_call.new.self cs) _ _ c.take_call.result (origin_row s c.args.row.now.identity c.args.row.now.bytes c.in_ok-origin-in-Begun-Origin.field-0 Begun c.in-Begun-Origin.is-0 (sym c.in-Begun-Origin.ensures) refl refl (sym c.in_ok-origin-in-Begun-Origin.ensures)) (c.take_call.ensures.told cs);
       room = room_kept (is_ok c.take_call.result) c.args.self.now.stage Running c.take_call.new.self.stage (length cs) (ap is_reading c.in-Begun-Origin.is-0) c.take_call.ensures.stage;
       unchanged = λ h. (c.take_call.ensures.unchanged h, refl);
       store = refl;
       reference = c.take_call.ensures.reference;
     }
 
-pub returns-in_ok-origin-2 : goal.returns-in_ok-origin-2
-returns-in_ok-origin-2 g c =
+pub returns-in_ok-origin-in-Extra-Origin : goal.returns-in_ok-origin-in-Extra-Origin
+returns-in_ok-origin-in-Extra-Origin g c =
     let s = standing g.S.Timetable.map g.S.Timetable.capacity c.args.self.now c.args.overlay.now in
     let cs = pending_in c.args.overlay.now.pending in
     record {
-      told = λ _. told_by (seen c.take_call-in-Extra-Origin.new.self cs) _ _ c.take_call-in-Extra-Origin.result (origin_row s c.args.row.now.identity c.args.row.now.bytes c.in_ok-origin-2.field-0 Extra c.in-Extra-Origin.is-0 (sym c.in-Extra-Origin.ensures) refl refl (sym c.in_ok-origin-2.ensures)) (c.take_call-in-Extra-Origin.ensures.told cs);
+      told = λ _. told_by (seen c.take_call-in-Extra-Origin.new.self cs) _ _ c.take_call-in-Extra-Origin.result (origin_row s c.args.row.now.identity c.args.row.now.bytes c.in_ok-origin-in-Extra-Origin.field-0 Extra c.in-Extra-Origin.is-0 (sym c.in-Extra-Origin.ensures) refl refl (sym c.in_ok-origin-in-Extra-Origin.ensures)) (c.take_call-in-Extra-Origin.ensures.told cs);
       room = room_kept (is_ok c.take_call-in-Extra-Origin.result) c.args.self.now.stage Running c.take_call-in-Extra-Origin.new.self.stage (length cs) (ap is_reading c.in-Extra-Origin.is-0) c.take_call-in-Extra-Origin.ensures.stage;
       unchanged = λ h. (c.take_call-in-Extra-Origin.ensures.unchanged h, refl);
       store = refl;
       reference = c.take_call-in-Extra-Origin.ensures.reference;
     }
 
-pub returns-in_ok-intermediate : goal.returns-in_ok-intermediate
-returns-in_ok-intermediate g c =
+pub returns-in_ok-intermediate-in-Running-Intermediate : goal.returns-in_ok-intermediate-in-Running-Intermediate
+returns-in_ok-intermediate-in-Running-Intermediate g c =
     let s = standing g.S.Timetable.map g.S.Timetable.capacity c.args.self.now c.args.overlay.now in
     let cs = pending_in c.args.overlay.now.pending in
     record {
-      told = λ _. told_by (seen c.take_call-in-Running-Intermediate.new.self cs) _ _ c.take_call-in-Running-Intermediate.result (intermediate_row s c.args.row.now.identity c.args.row.now.bytes c.in_ok-intermediate.field-0 Running c.in-Running-Intermediate.is-0 (sym c.in-Running-Intermediate.ensures) refl refl (sym c.in_ok-intermediate.ensures)) (c.take_call-in-Running-Intermediate.ensures.told cs);
+      told = λ _. told_by (seen c.take_call-in-Running-Intermediate.new.self cs) _ _ c.take_call-in-Running-Intermediate.result (intermediate_row s c.args.row.now.identity c.args.row.now.bytes c.in_ok-intermediate-in-Running-Intermediate.field-0 Running c.in-Running-Intermediate.is-0 (sym c.in-Running-Intermediate.ensures) refl refl (sym c.in_ok-intermediate-in-Running-Intermediate.ensures)) (c.take_call-in-Running-Intermediate.ensures.told cs);
       room = room_kept (is_ok c.take_call-in-Running-Intermediate.result) c.args.self.now.stage Running c.take_call-in-Running-Intermediate.new.self.stage (length cs) (ap is_reading c.in-Running-Intermediate.is-0) c.take_call-in-Running-Intermediate.ensures.stage;
       unchanged = λ h. (c.take_call-in-Running-Intermediate.ensures.unchanged h, refl);
       store = refl;
       reference = c.take_call-in-Running-Intermediate.ensures.reference;
     }
 
-pub returns-in_ok-intermediate-2 : goal.returns-in_ok-intermediate-2
-returns-in_ok-intermediate-2 g c =
+pub returns-in_ok-intermediate-in-Changed-Intermediate : goal.returns-in_ok-intermediate-in-Changed-Intermediate
+returns-in_ok-intermediate-in-Changed-Intermediate g c =
     let s = standing g.S.Timetable.map g.S.Timetable.capacity c.args.self.now c.args.overlay.now in
     let cs = pending_in c.args.overlay.now.pending in
     record {
-      told = λ _. told_by (seen c.take_call-in-Changed-Intermediate.new.self cs) _ _ c.take_call-in-Changed-Intermediate.result (intermediate_row s c.args.row.now.identity c.args.row.now.bytes c.in_ok-intermediate-2.field-0 Changed c.in-Changed-Intermediate.is-0 (sym c.in-Changed-Intermediate.ensures) refl refl (sym c.in_ok-intermediate-2.ensures)) (c.take_call-in-Changed-Intermediate.ensures.told cs);
+      told = λ _. told_by (seen c.take_call-in-Changed-Intermediate.new.self cs) _ _ c.take_call-in-Changed-Intermediate.result (intermediate_row s c.args.row.now.identity c.args.row.now.bytes c.in_ok-intermediate-in-Changed-Intermediate.field-0 Changed c.in-Changed-Intermediate.is-0 (sym c.in-Changed-Intermediate.ensures) refl refl (sym c.in_ok-intermediate-in-Changed-Intermediate.ensures)) (c.take_call-in-Changed-Intermediate.ensures.told cs);
       room = room_kept (is_ok c.take_call-in-Changed-Intermediate.result) c.args.self.now.stage Running c.take_call-in-Changed-Intermediate.new.self.stage (length cs) (ap is_reading c.in-Changed-Intermediate.is-0) c.take_call-in-Changed-Intermediate.ensures.stage;
       unchanged = λ h. (c.take_call-in-Changed-Intermediate.ensures.unchanged h, refl);
       store = refl;
       reference = c.take_call-in-Changed-Intermediate.ensures.reference;
     }
 
-pub returns-in_ok-terminus : goal.returns-in_ok-terminus
-returns-in_ok-terminus g c =
+pub returns-in_ok-terminus-in-Running-Terminus : goal.returns-in_ok-terminus-in-Running-Terminus
+returns-in_ok-terminus-in-Running-Terminus g c =
     let s = standing g.S.Timetable.map g.S.Timetable.capacity c.args.self.now c.args.overlay.now in
     let n = length (pending_in c.args.overlay.now.pending) in
     let kept : is_ok c.take_terminus.result ≡ false → (c.take_terminus.new.self ≡ c.args.self.now) × (c.take_terminus.new.pending ≡ c.args.overlay.now.pending) = c.take_terminus.ensures.unchanged in
     record {
-      told = λ h. told_by (seen c.take_terminus.new.self (pending_in c.take_terminus.new.pending)) _ _ c.take_terminus.result (terminus_row s c.args.row.now.identity c.args.row.now.bytes c.in_ok-terminus.field-0 c.in-Running-Terminus.is-0 (sym c.in-Running-Terminus.ensures) (sym c.in_ok-terminus.ensures)) (c.take_terminus.ensures.told (sym (ap (λ x. has_room x n) c.in-Running-Terminus.is-0) ∙ h));
+      told = λ h. told_by (seen c.take_terminus.new.self (pending_in c.take_terminus.new.pending)) _ _ c.take_terminus.result (terminus_row s c.args.row.now.identity c.args.row.now.bytes c.in_ok-terminus-in-Running-Terminus.field-0 c.in-Running-Terminus.is-0 (sym c.in-Running-Terminus.ensures) (sym c.in_ok-terminus-in-Running-Terminus.ensures)) (c.take_terminus.ensures.told (sym (ap (λ x. has_room x n) c.in-Running-Terminus.is-0) ∙ h));
       room = λ h. ⊎_elim
           (λ ok. c.take_terminus.ensures.room ok)
           (λ refused. ap (λ x. has_room x.stage (length (pending_in c.take_terminus.new.pending))) (kept refused).0 ∙ (ap (λ p. has_room c.args.self.now.stage (length (pending_in p))) (kept refused).1 ∙ h))
