@@ -16,11 +16,11 @@ returns-in_err-beside g c =
     let row = c.in_ok-row.row in
     let made = MatchResult-at_ok _ _ row (beside_ok c.check.result _ row (sym c.in_ok-row.ensures)) c.check.ensures.made in
     let refused = beside_err c.take.result c.letters-letters.result c.in_err-beside.field-0.0 (sym c.beside-2.ensures ∙ c.in_err-beside.was) in
-    let p = err_from_is_err_and c.from-residual-in_err-beside.result c.from-residual-in_err-beside.ensures.1 in
+    let p = err_from_is_err_and c.from_residual-in_err-beside.result c.from_residual-in_err-beside.ensures.1 in
     let kept = c.take.ensures.unchanged (ap is_ok refused.0) in
     let letters : letters_in c.args.bytes.now ≡ c.in_err-beside.field-0.0.1 = sym (ap letters_in made.0) ∙ sym c.letters-letters.ensures ∙ refused.1 in
     record {
-      told = told_err _ _ c.from-residual-in_err-beside.result p.0 p.1 (heard_err is_misplaced s c.args.bytes.now row.bytes row.identity _ c.take.result made.0 made.1 (c.take.ensures.told c.args.self.now.room) c.in_err-beside.field-0.0.0 refused.0 ∙ ap Err (ap (λ l. in_row l c.in_err-beside.field-0.0.0) letters ∙ sym p.2));
+      told = told_err _ _ c.from_residual-in_err-beside.result p.0 p.1 (heard_err is_misplaced s c.args.bytes.now row.bytes row.identity _ c.take.result made.0 made.1 (c.take.ensures.told c.args.self.now.room) c.in_err-beside.field-0.0.0 refused.0 ∙ ap Err (ap (λ l. in_row l c.in_err-beside.field-0.0.0) letters ∙ sym p.2));
       unchanged = λ _. same_controller c.args.self.now _ _ _ kept.1 kept.0;
       store = c.take.ensures.store;
       reference = c.take.ensures.reference;
