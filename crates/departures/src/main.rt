@@ -1,4 +1,5 @@
 // Reads files of rows in the CIF layout, and prints what they hold.
+use anyhow::anyhow;
 use controller::controller::Controller;
 use std::env;
 use stores::bag::Bag;
@@ -44,7 +45,7 @@ fn run_stores(rt: &HostRuntime, capacity: &str, names: &[String]) -> anyhow::Res
 fn slots_in(capacity: &str) -> anyhow::Result<usize> {
     let slots = capacity.parse::<usize>()?;
     if slots > MOST_SLOTS {
-        return Err(USAGE.into());
+        return Err(anyhow!(USAGE));
     }
     Ok(slots)
 }
@@ -86,7 +87,7 @@ fn run_board(
             let mut store = Bag::new(slots.as_mut_slice());
             run_board_on(rt, &mut store, wanted, times, names)
         }
-        _ => Err(USAGE.into()),
+        _ => Err(anyhow!(USAGE)),
     }
 }
 
@@ -101,7 +102,7 @@ fn run_wanted(rt: &HostRuntime, times: Option<u64>, words: &[String]) -> anyhow:
             };
             run_board(rt, capacity.as_str(), wanted, times, names)
         }
-        _ => Err(USAGE.into()),
+        _ => Err(anyhow!(USAGE)),
     }
 }
 
@@ -146,7 +147,7 @@ fn run_extract(
     match wanted.store {
         "table" => run_extract_on(rt, Table::new(slots.as_mut_slice()), wanted, base, names),
         "bag" => run_extract_on(rt, Bag::new(slots.as_mut_slice()), wanted, base, names),
-        _ => Err(USAGE.into()),
+        _ => Err(anyhow!(USAGE)),
     }
 }
 
@@ -161,7 +162,7 @@ fn run_extracts(rt: &HostRuntime, words: &[String]) -> anyhow::Result<()> {
             };
             run_extract(rt, capacity.as_str(), wanted, base.as_str(), names)
         }
-        _ => Err(USAGE.into()),
+        _ => Err(anyhow!(USAGE)),
     }
 }
 
@@ -178,7 +179,7 @@ fn run_task(rt: &HostRuntime, words: &[String]) -> anyhow::Result<()> {
         [command, times, rest @ ..] if command.as_str() == "turns" => {
             run_wanted(rt, Some(times.as_str().parse::<u64>()?), rest)
         }
-        _ => Err(USAGE.into()),
+        _ => Err(anyhow!(USAGE)),
     }
 }
 
