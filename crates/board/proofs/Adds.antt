@@ -1,15 +1,14 @@
 -- The lines of one train, call by call.
-use Rattle.std.proofs.Common.{◌≡◌, ℕ, zero, suc, ◌+◌, ◌<◌, ◌≤◌, Bool, true, false, cond, not, ◌&&◌, ◌||◌, eqb, ltb, leb, ◌⊎◌, List, [], ◌∷◌, length, get_or, take, is_some, Some, None, Option, sym, refl, ap, ◌∙◌, subst, inl, inr, ⊎_elim, add-one, arith}
-use Rattle.std.specs.Str.{bytes_eq}
+use Rattle.std.proofs.Common.{◌≡◌, ℕ, zero, suc, ◌+◌, ◌<◌, ◌≤◌, Bool, true, false, cond, ltb, leb, ◌⊎◌, List, [], ◌∷◌, length, get_or, take, is_some, Some, None, Option, sym, refl, ap, ◌∙◌, subst, inl, inr, ⊎_elim, add-one, arith}
 use Rattle.std.proofs.lemmas.Slice.Eq.{bytes_eq-Decides}
-use Rattle.std.proofs.lemmas.Bool.{and_parts, cases_Bool, both_ways, cond-true, cond-false, leb-true, cases_eq, lt-ltb, or_right}
+use Rattle.std.proofs.lemmas.Bool.{and_parts, cases_Bool, cond-true, cond-false, leb-true, cases_eq, lt-ltb, or_right}
 use Rattle.cif.specs.declared.content.Location.{Location}
 use Rattle.maps.specs.Orders.{same}
 use Rattle.maps.specs.Maps.{lookup, including}
 use Rattle.maps.proofs.Maps.{same_is, same_level, lookup_including}
 use Rattle.ordered.specs.Tables.{Put}
 use Rattle.schedule.specs.declared.record.Record.{Record}
-use Rattle.schedule.specs.Records.{is_at, visits, every_call, few_visits, kept_calls}
+use Rattle.schedule.specs.Records.{is_at, visits, every_call, few_visits}
 use Rattle.running.proofs.Forces.{some_is, none_some}
 use Rattle.board.specs.declared.line.LineKey.{LineKey}
 use Rattle.board.specs.declared.line.Line.{Line}

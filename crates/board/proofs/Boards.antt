@@ -1,5 +1,5 @@
 -- A walk over the trains of a map that fills in a board.
-use Rattle.std.proofs.Common.{◌≡◌, ℕ, suc, ◌+◌, ◌*◌, ◌<◌, ◌≤◌, Bool, true, false, cond, ◌&&◌, ltb, ◌⊎◌, List, [], ◌∷◌, length, Some, None, Option, sym, refl, ap, ◌∙◌, subst, inl, inr, ⊎_elim, arith}
+use Rattle.std.proofs.Common.{◌≡◌, ℕ, ◌+◌, ◌<◌, ◌≤◌, true, false, ltb, List, [], ◌∷◌, length, Some, None, Option, sym, refl, ap, ◌∙◌, subst, ⊎_elim, arith}
 use Rattle.std.proofs.lemmas.Bool.{and_parts, ltb-true, both_ways, cases_Bool, cases_lt, cases_order, cond-true, cond-false}
 use Rattle.std.proofs.lemmas.Bool.Decides.{nat_tests}
 use Rattle.forms.specs.declared.letters.Stp.TheVariants.{Cancellation}
@@ -9,16 +9,16 @@ use Rattle.maps.proofs.Maps.{same_maps, same_is}
 use Rattle.schedule.specs.declared.key.Key.{Key}
 use Rattle.schedule.specs.declared.record.Record.{Record}
 use Rattle.schedule.specs.Keys.{key_before}
-use Rattle.schedule.specs.Records.{key_of, is_schedule, in_range}
+use Rattle.schedule.specs.Records.{key_of, in_range}
 use Rattle.timetable.specs.Timetables.{not_before, IsMap}
 use Rattle.timetable.proofs.Nexts.{Next, next, all_before, has_held, found_key, left, left_falls, moves_on}
 use Rattle.timetable.proofs.Valid.{found_valid}
-use Rattle.running.specs.Running.{Holds, Candidate}
+use Rattle.running.specs.Running.{Holds}
 use Rattle.running.proofs.Forces.{some_is, none_some}
 use Rattle.running.proofs.Walks.{held_has}
 use Rattle.board.specs.declared.line.LineKey.{LineKey}
 use Rattle.board.specs.declared.line.Line.{Line}
-use Rattle.board.specs.Lines.{line_before, line_key, On, IsLine, BoardOf, BoardIsOne}
+use Rattle.board.specs.Lines.{line_before, line_key, IsLine, BoardOf, BoardIsOne}
 use Rattle.board.specs.Filling.{Fresh, UpTo, Trained}
 use Rattle.board.specs.LineOrders.{line_lawful}
 

@@ -1,7 +1,7 @@
 -- When a board is turned, by the table of its refusals.
-use Rattle.std.proofs.Common.{◌≡◌, ℕ, ◌*◌, ◌<◌, ◌≤◌, Bool, true, false, cond, not, ◌||◌, ltb, List, Some, None, Option, sym, refl, ap, ◌∙◌, subst, ⊎_elim}
+use Rattle.std.proofs.Common.{◌≡◌, ℕ, ◌*◌, ◌<◌, ◌≤◌, Bool, true, false, not, ◌||◌, ltb, List, Some, None, sym, refl, ap, ◌∙◌, subst}
 use denote.Struct.Props.{props}
-use Rattle.std.proofs.lemmas.Bool.{cond-true, cond-false, cases_Bool, lt-ltb, le-ltb}
+use Rattle.std.proofs.lemmas.Bool.{cond-true, cond-false, lt-ltb, le-ltb}
 use Rattle.forms.specs.Bytes.{provided}
 use Rattle.forms.specs.Forms.{is_tiploc}
 use Rattle.cif.specs.declared.refusal.Refusal.TheVariants.{TooFewSlots}

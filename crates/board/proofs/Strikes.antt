@@ -1,15 +1,12 @@
 -- What is left of a board when the lines of some trains are struck out.
-use Rattle.std.proofs.Common.{◌≡◌, ℕ, Bool, true, false, cond, ◌&&◌, List, [], ◌∷◌, Some, None, Option, sym, refl, ap, ◌∙◌, ⊎_elim}
+use Rattle.std.proofs.Common.{◌≡◌, ℕ, Bool, true, false, cond, List, [], ◌∷◌, Some, None, sym, refl, ap, ◌∙◌, ⊎_elim}
 use Rattle.std.proofs.lemmas.Bool.{and_parts, and_from, cond_both, cond-true, cond-false, cases_Bool, true≢false, false≢true}
 use Rattle.maps.specs.Orders.{same}
 use Rattle.maps.specs.Maps.{after, ascending, lookup}
 use Rattle.maps.proofs.Maps.{same_maps, same_is}
-use Rattle.schedule.specs.declared.key.Key.{Key}
-use Rattle.schedule.specs.declared.record.Record.{Record}
-use Rattle.timetable.specs.Timetables.{schedule_of}
 use Rattle.board.specs.declared.line.LineKey.{LineKey}
 use Rattle.board.specs.declared.line.Line.{Line}
-use Rattle.board.specs.Lines.{line_before, line_key, IsLine, BoardOf}
+use Rattle.board.specs.Lines.{line_before, line_key}
 use Rattle.board.specs.Strikes.{struck, UnnamedLinesStay}
 use Rattle.board.proofs.Boards.{same_look}
 use Rattle.board.specs.LineOrders.{line_lawful}

@@ -1,15 +1,14 @@
 -- The lines of one train, by its schedule in force.
-use Rattle.std.proofs.Common.{◌≡◌, ℕ, ◌+◌, ◌<◌, ◌≤◌, Bool, true, false, ◌&&◌, leb, ◌⊎◌, List, [], ◌∷◌, length, take, Some, None, sym, refl, ap, ◌∙◌, subst, inl, inr, ⊎_elim, arith}
-use Rattle.std.specs.Str.{bytes_eq}
+use Rattle.std.proofs.Common.{◌≡◌, ℕ, ◌<◌, ◌≤◌, true, false, leb, List, [], ◌∷◌, length, take, sym, refl, ap, ◌∙◌, subst, inl, inr, ⊎_elim, arith}
 use Rattle.std.proofs.lemmas.Bool.{and_parts, leb-true, both_ways}
 use Rattle.forms.specs.declared.letters.Stp.{Stp}
 use Rattle.forms.specs.declared.letters.Stp.TheVariants.{Cancellation, ShortTerm, Overlay, Permanent}
 use Rattle.schedule.specs.declared.record.Record.{Record}
-use Rattle.schedule.specs.Records.{is_at, visits, kept_calls, few_visits, every_call, is_filler, in_range, bare_if_cancelled, is_cancellation, is_schedule}
+use Rattle.schedule.specs.Records.{is_at, visits, kept_calls, few_visits, in_range, is_cancellation, is_schedule}
 use Rattle.running.specs.Running.{Candidate, InForce}
 use Rattle.running.proofs.Forces.{one, alone, none_some}
 use Rattle.board.specs.declared.line.Line.{Line}
-use Rattle.board.specs.Lines.{On, no_call, line_at, IsLine, LinesOfTrainAlone, InForceHides, CancelledHides}
+use Rattle.board.specs.Lines.{no_call, line_at, IsLine, LinesOfTrainAlone, InForceHides, CancelledHides}
 use Rattle.board.specs.Filling.{Added, Trained}
 use Rattle.board.proofs.Adds.{line_here, two_visits}
 

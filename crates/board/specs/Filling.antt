@@ -1,6 +1,5 @@
 -- How a board's lines are filled in, call by call and train by train.
-use Rattle.std.specs.Prelude.{◌≡◌, ℕ, ◌+◌, ◌*◌, ◌<◌, ◌≤◌, Bool, true, false, ◌⊎◌, List, length, take, Some, ◌≢◌}
-use Rattle.maps.specs.Maps.{ascending}
+use Rattle.std.specs.Prelude.{◌≡◌, ℕ, ◌+◌, ◌<◌, ◌≤◌, ◌⊎◌, List, length, take, Some, ◌≢◌}
 use Rattle.schedule.specs.declared.record.Record.{Record}
 use Rattle.schedule.specs.Records.{visits}
 use Rattle.board.specs.declared.line.Line.{Line}

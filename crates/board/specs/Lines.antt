@@ -1,5 +1,5 @@
 -- Which lines stand on a board.
-use Rattle.std.specs.Prelude.{◌≡◌, ℕ, ◌*◌, ◌<◌, ◌≤◌, Bool, true, false, cond, ◌&&◌, ◌||◌, List, [], length, Some, None, Option, ◌==◌, nat_lt, slice_index_or}
+use Rattle.std.specs.Prelude.{◌≡◌, ℕ, ◌<◌, Bool, true, false, cond, ◌&&◌, ◌||◌, List, [], Some, None, Option, ◌==◌, nat_lt, slice_index_or}
 use Rattle.cif.specs.declared.content.Location.{Location}
 use Rattle.maps.specs.Maps.{ascending, lookup}
 use Rattle.schedule.specs.declared.key.Key.{Key}

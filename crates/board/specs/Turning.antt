@@ -1,5 +1,5 @@
 -- When a board can be turned to a station and day.
-use Rattle.std.specs.Prelude.{ℕ, ◌*◌, Bool, not, ◌||◌, List, [], ◌∷◌, nat_lt}
+use Rattle.std.specs.Prelude.{ℕ, ◌*◌, not, ◌||◌, List, [], ◌∷◌, nat_lt}
 use Rattle.forms.specs.Forms.{is_tiploc}
 use Rattle.cif.specs.declared.refusal.Refusal.TheVariants.{NoSuchBoard, TooFewSlots}
 use Rattle.cif.specs.Refusals.{Line, line}

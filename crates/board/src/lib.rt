@@ -1,4 +1,6 @@
 // Departure boards: which lines stand on the glass.
+#![tactic(auto)]
+
 pub mod display;
 pub mod fill;
 pub mod laws;

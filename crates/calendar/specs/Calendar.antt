@@ -1,5 +1,5 @@
 -- The Gregorian calendar from 1960 to 2059, and the numbers of its days.
-use Rattle.std.specs.Prelude.{ℕ, ◌+◌, ◌-◌, ◌*◌, ◌/◌, ◌%◌, Bool, true, false, cond, not, ◌&&◌, ◌||◌, Some, None, Option, ◌==◌, nat_le, nat_lt}
+use Rattle.std.specs.Prelude.{ℕ, ◌+◌, ◌-◌, ◌*◌, ◌/◌, ◌%◌, Bool, cond, not, ◌&&◌, ◌||◌, Some, None, Option, ◌==◌, nat_le, nat_lt}
 
 -- the calendar's rule for leap years: each fourth year, of the centuries each fourth
 abbrev pub is_leap_year : ℕ → Bool

@@ -1,5 +1,5 @@
 -- What a calendar's numbering has to do, said of the definitions.
-use Rattle.std.specs.Prelude.{◌≡◌, ℕ, ◌+◌, ◌%◌, ◌<◌, ◌≤◌, Bool, true, false, cond, nat_lt}
+use Rattle.std.specs.Prelude.{◌≡◌, ℕ, ◌+◌, ◌%◌, ◌≤◌, true, cond, nat_lt}
 use Rattle.calendar.specs.Calendar.{is_leap_year, days_in, exists, day_number, weekday}
 
 -- a date: years since 1960, month and day of the month

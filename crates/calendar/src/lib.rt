@@ -1,4 +1,6 @@
 // Dates of the Gregorian calendar from 1960 to 2059, told as day number and weekday.
+#![tactic(auto)]
+
 ghost use Rattle.std.specs.Prelude.{◌≡◌, ℕ, ◌+◌, ◌-◌, ◌*◌, ◌/◌, ◌%◌, ◌<◌, ◌≤◌, ◌==◌};
 ghost use Rattle.calendar.specs.Calendar.{days_in, month_start, day_number, dated};
 ghost use Rattle.calendar.specs.Laws.{NumbersTheDays, StaysInRange, TellsDatesApart};

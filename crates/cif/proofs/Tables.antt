@@ -1,5 +1,5 @@
 -- Reading field by field tells the uppermost line of the table.
-use Rattle.std.proofs.Common.{◌≡◌, ℕ, ◌+◌, Bool, true, false, cond, not, ◌&&◌, eqb, ltb, leb, List, [], ◌∷◌, ◌++◌, length, Some, None, Ok, Err, Option, Result, sym, refl, ap, ◌∙◌, arith}
+use Rattle.std.proofs.Common.{◌≡◌, ℕ, Bool, true, false, cond, not, eqb, ltb, leb, List, [], ◌∷◌, ◌++◌, length, Some, None, Ok, Err, Option, Result, sym, refl, ap, ◌∙◌, arith}
 use Rattle.std.specs.Option.{option_map}
 use Rattle.std.proofs.lemmas.Bool.Decides.{nat_tests}
 use Rattle.forms.specs.declared.letters.Stp.{Stp}
@@ -8,18 +8,16 @@ use Rattle.forms.specs.declared.letters.Transaction.{Transaction}
 use Rattle.forms.specs.declared.letters.Transaction.TheVariants.{New as AsNew, Revise as AsRevised, Delete as AsDeleted}
 use Rattle.cif.specs.declared.refusal.Refusal.TheVariants.{RowLength, BadByte, UnknownIdentity, EndsBeforeStart}
 use Rattle.cif.specs.declared.refusal.ColumnFault.{ColumnFault}
-use Rattle.cif.specs.declared.refusal.RowFault.{RowFault}
 use Rattle.cif.specs.declared.identity.Identity.{Identity}
 use Rattle.cif.specs.declared.identity.Identity.TheVariants.{Header, BasicSchedule, BasicExtra, Origin, Intermediate, Terminus, ChangeEnRoute, LocationInsert, LocationAmend, LocationDelete, Association, Trailer}
 use Rattle.cif.specs.declared.content.BasicSchedule.{BasicSchedule as Schedule}
 use Rattle.cif.specs.declared.content.Running.{Running}
-use Rattle.cif.specs.declared.content.Content.{Content}
 use Rattle.cif.specs.Refusals.{number_of, fault_at, in_row, Line, line, uppermost, missing, lacks, formed, then, raised, fault_of}
 use Rattle.cif.specs.Rows.{identity_in, first_bad, column_or0}
 use Rattle.cif.specs.declared.content.Header.{Header as HeaderFields}
 use Rattle.cif.specs.declared.content.Location.{Location}
 use Rattle.cif.specs.Fields.{current_reference, last_reference, coverage_of, tiploc_of, suffix_of, time_at, platform_at, header_in, header_lines, transaction_of, uid_of, from_of, to_of, days_of, train_of, stp_of, reads_all, ends_before, only_if, change_in, runs_on, schedule_in, schedule_lines, operator_in, operator_lines, operator_of, origin_in, end_lines, intermediate_in, intermediate_lines, terminus_in}
-use Rattle.cif.specs.Reading.{letters_in, blanks, content_in, read_in, field_lines, field_lines_in, reading_lines, told_in, by_table}
+use Rattle.cif.specs.Reading.{letters_in, blanks, content_in, read_in, field_lines, field_lines_in, told_in, by_table}
 
 abbrev headed : List ℕ → List ℕ → Coverage → HeaderFields
 headed c l k = record { current = c; last = l; coverage = k }

@@ -1,5 +1,5 @@
 -- The fields of each kind of row, at their columns, and what the row holds.
-use Rattle.std.specs.Prelude.{ℕ, ◌+◌, Bool, true, false, cond, not, ◌&&◌, ◌||◌, List, [], ◌∷◌, Some, None, Ok, Err, Option, Result, nat_le, nat_lt}
+use Rattle.std.specs.Prelude.{ℕ, ◌+◌, Bool, true, false, cond, ◌&&◌, List, [], ◌∷◌, Some, None, Ok, Err, Option, Result, nat_le, nat_lt}
 use Rattle.forms.specs.declared.letters.Stp.{Stp}
 use Rattle.forms.specs.declared.letters.Transaction.{Transaction}
 use Rattle.forms.specs.declared.letters.Transaction.TheVariants.{New as AsNew, Revise as AsRevised, Delete as AsDeleted}

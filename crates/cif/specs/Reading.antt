@@ -1,5 +1,5 @@
 -- A row by itself: what it holds, or the uppermost refusal, told with its identity.
-use Rattle.std.specs.Prelude.{◌≡◌, ℕ, Bool, true, false, cond, List, [], ◌∷◌, ◌++◌, Some, None, Ok, Err, Option, Result, nat_le}
+use Rattle.std.specs.Prelude.{◌≡◌, ℕ, cond, List, [], ◌∷◌, ◌++◌, Some, None, Ok, Option, Result, nat_le}
 use Rattle.std.specs.Option.{option_map}
 use Rattle.forms.specs.Bytes.{byte_at}
 use Rattle.cif.specs.declared.refusal.ColumnFault.{ColumnFault}

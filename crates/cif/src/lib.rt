@@ -1,4 +1,6 @@
 // Rows of the CIF layout: what they hold, or why they are turned away.
+#![tactic(auto)]
+
 pub mod content;
 pub mod header;
 pub mod identity;

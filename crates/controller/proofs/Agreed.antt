@@ -1,5 +1,5 @@
 -- A row that is taken leaves the extract in agreement with the rows, the new one included.
-use Rattle.std.proofs.Common.{◌≡◌, ℕ, Bool, true, false, cond, not, ◌&&◌, ◌||◌, List, [], ◌∷◌, ◌++◌, Some, None, Ok, Err, Option, Result, sym, refl, ap, ◌∙◌, subst, arith}
+use Rattle.std.proofs.Common.{◌≡◌, ℕ, Bool, true, false, List, [], ◌∷◌, ◌++◌, Some, None, Ok, Err, Option, Result, sym, refl, ap, ◌∙◌, subst, arith}
 use Rattle.std.proofs.lemmas.List.Sums.{fold_push}
 use Rattle.std.proofs.lemmas.Bool.Decides.{nat_tests}
 use Rattle.cif.specs.declared.content.Content.{Content}
@@ -7,18 +7,16 @@ use Rattle.cif.specs.declared.content.Content.TheVariants.{Header as OfHeader, S
 use Rattle.cif.specs.declared.identity.Identity.{Identity}
 use Rattle.cif.specs.declared.identity.Identity.TheVariants.{Header, BasicSchedule, BasicExtra, Origin, Intermediate, Terminus, ChangeEnRoute, LocationInsert, LocationAmend, LocationDelete, Association, Trailer}
 use Rattle.cif.specs.declared.refusal.ColumnFault.{ColumnFault}
-use Rattle.cif.specs.declared.refusal.RowFault.{RowFault}
 use Rattle.cif.specs.Refusals.{missing, then, raised, in_row, uppermost}
 use Rattle.cif.specs.Rows.{whole_in}
 use Rattle.cif.specs.Fields.{header_in, schedule_in, operator_in, origin_in, intermediate_in, terminus_in}
 use Rattle.cif.specs.Reading.{letters_in, blanks, content_in}
-use Rattle.schedule.specs.declared.record.Record.{Record}
 use Rattle.schedule.specs.Transactions.{every_lawful}
 use Rattle.timetable.specs.Timetables.{IsMap}
 use Rattle.extract.specs.declared.stage.Stage.{Stage}
 use Rattle.extract.specs.Stages.{next_stage}
-use Rattle.extract.specs.Progress.{Progress, identity_for, after, after_row, progress_of, idle}
-use Rattle.extract.specs.Judging.{Standing, judged, admitted, taken_unless, is_misplaced, is_no_opening, content_lines}
+use Rattle.extract.specs.Progress.{Progress, identity_for, after, after_row, idle}
+use Rattle.extract.specs.Judging.{Standing, admitted, taken_unless, is_misplaced, is_no_opening, content_lines}
 use Rattle.controller.specs.Calls.{heard_by}
 use Rattle.controller.specs.Agreeing.{Fits, Agrees}
 use Rattle.controller.proofs.Heard.{heard_after}

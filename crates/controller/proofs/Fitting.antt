@@ -1,7 +1,7 @@
 -- What is pending fits the store, row by row.
-use Rattle.std.proofs.Common.{◌≡◌, ℕ, suc, ◌+◌, ◌-◌, ◌<◌, ◌≤◌, Bool, true, false, cond, not, ◌&&◌, ◌||◌, eqb, leb, List, [], ◌∷◌, ◌++◌, length, take, is_some, Some, None, Ok, Err, Option, Result, unwrap_or, sym, refl, ap, ◌∙◌, subst, ⊎_elim, append-nil, arith}
+use Rattle.std.proofs.Common.{◌≡◌, ℕ, suc, ◌+◌, ◌≤◌, Bool, true, false, cond, not, ◌&&◌, ◌||◌, List, [], ◌∷◌, ◌++◌, length, take, None, unwrap_or, sym, refl, ap, ◌∙◌, subst, ⊎_elim, append-nil, arith}
 use Rattle.std.proofs.lemmas.List.{take_all, take-append-le, length_push}
-use Rattle.std.proofs.lemmas.Bool.{cases_Bool, true≢false, eqb-false, cases_lt}
+use Rattle.std.proofs.lemmas.Bool.{true≢false, eqb-false, cases_lt}
 use Rattle.std.proofs.lemmas.Bool.Decides.{nat_tests}
 use Rattle.cif.specs.declared.content.BasicSchedule.{BasicSchedule}
 use Rattle.cif.specs.declared.content.Change.{Change as Asked}
@@ -11,10 +11,8 @@ use Rattle.cif.specs.declared.content.Content.{Content}
 use Rattle.cif.specs.declared.content.Content.TheVariants.{Header, Schedule, Operator, Origin, Intermediate, Terminus, Unread}
 use Rattle.cif.specs.declared.identity.Identity.{Identity}
 use Rattle.cif.specs.declared.identity.Identity.TheVariants.{Header as IsHeader, BasicSchedule as IsSchedule, BasicExtra as IsExtra, Origin as IsOrigin, Intermediate as IsIntermediate, Terminus as IsTerminus}
-use Rattle.cif.specs.declared.refusal.ColumnFault.{ColumnFault}
-use Rattle.cif.specs.Refusals.{Line, uppermost, missing}
-use Rattle.maps.proofs.Maps.{Stand, first, last, level, stand, some_none}
-use Rattle.schedule.specs.declared.key.Key.{Key}
+use Rattle.cif.specs.Refusals.{uppermost, missing}
+use Rattle.maps.proofs.Maps.{first, last, level, stand, some_none}
 use Rattle.schedule.specs.declared.record.Record.{Record}
 use Rattle.schedule.specs.declared.transaction.Change.{Change}
 use Rattle.schedule.specs.declared.transaction.Change.TheVariants.{New, Revise, Delete}
@@ -29,7 +27,7 @@ use Rattle.overlay.proofs.Dones.{all_map, done_push, done_count}
 use Rattle.extract.specs.declared.stage.Stage.{Stage}
 use Rattle.extract.specs.declared.stage.Stage.TheVariants.{Between}
 use Rattle.extract.specs.Stages.{next_stage, is_reading}
-use Rattle.extract.specs.Progress.{Progress, asked_by, is_brief, identity_for, after}
+use Rattle.extract.specs.Progress.{asked_by, is_brief, identity_for, after}
 use Rattle.extract.specs.Judging.{Standing, overlay_in, asks_new, is_there, is_full, past_rows, past_transactions, change_lines, content_lines}
 use Rattle.controller.specs.Agreeing.{Fits}
 use Rattle.controller.specs.Laws.{is_passing}

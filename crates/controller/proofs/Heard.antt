@@ -1,5 +1,5 @@
 -- A row that is heard step by step is turned away by the uppermost line of the table, and otherwise does what its bytes say.
-use Rattle.std.proofs.Common.{◌≡◌, ℕ, ◌+◌, Bool, true, false, cond, not, ◌&&◌, eqb, leb, List, [], ◌∷◌, ◌++◌, length, Some, None, Ok, Err, Option, Result, sym, refl, ap, ◌∙◌, subst, append-nil, arith}
+use Rattle.std.proofs.Common.{◌≡◌, ℕ, Bool, true, false, cond, not, eqb, List, [], ◌∷◌, ◌++◌, length, Some, None, Ok, Err, Option, Result, sym, refl, ap, ◌∙◌, subst, append-nil, arith}
 use Rattle.std.specs.Option.{option_map}
 use Rattle.cif.specs.declared.content.Content.{Content}
 use Rattle.cif.specs.declared.content.Content.TheVariants.{Header, Schedule, Operator, Origin, Intermediate, Terminus, Unread}
@@ -8,7 +8,7 @@ use Rattle.cif.specs.declared.identity.Identity.{Identity}
 use Rattle.cif.specs.declared.refusal.Refusal.TheVariants.{RowLength, BadByte, UnknownIdentity, OutOfPlace}
 use Rattle.cif.specs.declared.refusal.ColumnFault.{ColumnFault}
 use Rattle.cif.specs.declared.refusal.RowFault.{RowFault}
-use Rattle.cif.specs.Refusals.{number_of, fault_at, in_row, Line, line, uppermost, missing, then, raised, fault_of}
+use Rattle.cif.specs.Refusals.{fault_at, in_row, Line, line, uppermost, missing, then, raised, fault_of}
 use Rattle.cif.specs.Rows.{identity_in, first_bad, column_or0, whole_in}
 use Rattle.cif.specs.Reading.{letters_in, blanks, content_in, read_in, field_lines, field_lines_in, told_in}
 use Rattle.cif.proofs.Tables.{content_told, raised_told, Late, late_told, fields_late}
@@ -18,7 +18,7 @@ use Rattle.schedule.specs.Building.{bringing_lines}
 use Rattle.extract.specs.declared.stage.Stage.{Stage}
 use Rattle.extract.specs.Progress.{Progress, after, after_row}
 use Rattle.extract.specs.Judging.{Standing, judged, admitted, taken_unless, content_lines, location_lines, Told}
-use Rattle.extract.proofs.Lines.{or_next, uppermost_both, first_told, next_told}
+use Rattle.extract.proofs.Lines.{first_told, next_told}
 use Rattle.controller.specs.Calls.{misfits, held_lines, value_in, heard_by}
 
 late_both : (xs ys : List Line) → Late xs → Late ys → Late (xs ++ ys)

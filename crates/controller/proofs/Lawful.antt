@@ -1,11 +1,9 @@
 -- The laws, from the definitions.
-use Rattle.std.proofs.Common.{◌≡◌, ℕ, ◌<◌, ◌≤◌, Bool, true, false, cond, not, ◌&&◌, List, [], ◌∷◌, ◌++◌, length, take, Some, None, Option, sym, refl, ap, ◌∙◌, subst, ⊎_elim, append-nil, arith, MatchOption}
+use Rattle.std.proofs.Common.{◌≡◌, ◌≤◌, Bool, true, false, cond, List, [], ◌∷◌, ◌++◌, length, take, Some, None, Option, sym, refl, ap, subst, append-nil, arith, MatchOption}
 use Rattle.std.proofs.lemmas.List.{take_more_set}
 use Rattle.cif.specs.declared.refusal.ColumnFault.{ColumnFault}
-use Rattle.cif.specs.declared.content.Location.{Location}
 use Rattle.cif.specs.Refusals.{Line, uppermost}
-use Rattle.schedule.specs.declared.record.Record.{Record}
-use Rattle.schedule.specs.Records.{kept_calls, is_cancellation}
+use Rattle.schedule.specs.Records.{kept_calls}
 use Rattle.schedule.specs.Building.{is_kept, adds_call, with_call}
 use Rattle.overlay.specs.Overlays.{done_all}
 use Rattle.extract.specs.Progress.{Progress}

@@ -1,12 +1,9 @@
 -- Which rows begin and end a schedule.
-use Rattle.std.proofs.Common.{◌≡◌, Bool, true, false, cond, not, ◌&&◌, ◌||◌, Some, unwrap_or, sym, refl, ap, ◌∙◌, subst, arith}
+use Rattle.std.proofs.Common.{◌≡◌, true, false, unwrap_or, arith}
 use Rattle.std.proofs.lemmas.Bool.Decides.{nat_tests}
-use Rattle.std.proofs.lemmas.Bool.{true≢false}
 use Rattle.cif.specs.declared.identity.Identity.{Identity}
-use Rattle.cif.specs.declared.identity.Identity.TheVariants.{BasicSchedule, Terminus}
 use Rattle.cif.specs.Refusals.{missing}
 use Rattle.extract.specs.declared.stage.Stage.{Stage}
-use Rattle.extract.specs.declared.stage.Stage.TheVariants.{Idle, Between, Begun, Extra, Running, Changed, Complete}
 use Rattle.extract.specs.Stages.{next_stage, is_reading}
 use Rattle.controller.specs.Laws.{is_passing, ReadFromBsToLt}
 

@@ -1,5 +1,5 @@
 -- A controller with the parts that it had is the controller that it was.
-use Rattle.std.proofs.Common.{◌≡◌, sym, ap, ◌∙◌, subst}
+use Rattle.std.proofs.Common.{◌≡◌, sym, ap, subst}
 use denote.Struct.Props.{props}
 use Rattle.overlay.specs.declared.overlay.Overlay.{Overlay}
 use Rattle.extract.specs.declared.extract.Extract.{Extract}

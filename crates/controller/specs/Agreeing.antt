@@ -1,5 +1,5 @@
 -- The open extract is what its rows give afresh, and what is pending fits the store.
-use Rattle.std.specs.Prelude.{◌≡◌, ℕ, ◌≤◌, Bool, true, List, length, take}
+use Rattle.std.specs.Prelude.{◌≡◌, ℕ, ◌≤◌, true, List, length, take}
 use Rattle.schedule.specs.declared.record.Record.{Record}
 use Rattle.timetable.specs.Timetables.{IsMap}
 use Rattle.overlay.specs.Overlays.{done_to, done_all}

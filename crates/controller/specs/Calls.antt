@@ -6,7 +6,7 @@ use Rattle.cif.specs.declared.identity.Identity.{Identity}
 use Rattle.cif.specs.declared.refusal.Refusal.TheVariants.{OutOfPlace, TooFewSlots}
 use Rattle.cif.specs.declared.refusal.ColumnFault.{ColumnFault}
 use Rattle.cif.specs.declared.refusal.RowFault.{RowFault}
-use Rattle.cif.specs.Refusals.{Line, line, uppermost, missing, then, raised, in_row}
+use Rattle.cif.specs.Refusals.{Line, line, uppermost, then, raised, in_row}
 use Rattle.cif.specs.Rows.{row_lines, identity_in, whole_in}
 use Rattle.cif.specs.Reading.{read_in, field_lines_in, told_in, letters_in, blanks}
 use Rattle.board.specs.Turning.{turn_lines}

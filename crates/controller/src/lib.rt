@@ -1,4 +1,6 @@
 // A controller: an extract that is read over any store, and the calls.
+#![tactic(auto)]
+
 pub mod asking;
 pub mod calls;
 pub mod controller;

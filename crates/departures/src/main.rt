@@ -1,4 +1,6 @@
 // Reads files of rows in the CIF layout, and prints what they hold.
+#![tactic(auto)]
+
 use anyhow::anyhow;
 use controller::controller::Controller;
 use std::env;

@@ -1,5 +1,5 @@
 -- Tables of refusals, one after another.
-use Rattle.std.proofs.Common.{◌≡◌, Bool, true, false, cond, List, [], ◌∷◌, ◌++◌, Some, None, Option, sym, refl, ap, ◌∙◌}
+use Rattle.std.proofs.Common.{◌≡◌, true, false, List, [], ◌∷◌, ◌++◌, Some, None, Option, refl, ap, ◌∙◌}
 use Rattle.cif.specs.declared.refusal.ColumnFault.{ColumnFault}
 use Rattle.cif.specs.Refusals.{Line, uppermost}
 

@@ -1,22 +1,20 @@
 -- What each kind of row comes to, once it is read.
-use Rattle.std.proofs.Common.{◌≡◌, ℕ, ◌+◌, Bool, true, false, cond, ◌&&◌, ◌||◌, ltb, leb, ◌⊎◌, List, [], ◌∷◌, ◌++◌, Some, None, Ok, Err, Option, Result, sym, refl, ap, ◌∙◌, subst, inl, inr, ⊎_elim}
+use Rattle.std.proofs.Common.{◌≡◌, ℕ, Bool, true, false, cond, ◌&&◌, ◌||◌, ltb, leb, List, [], ◌∷◌, ◌++◌, Some, None, Ok, Err, Result, sym, refl, ap, ◌∙◌, subst}
 use Rattle.std.proofs.lemmas.Bool.{cond-false}
 use Rattle.cif.specs.declared.content.Location.{Location}
 use Rattle.cif.specs.declared.content.Content.{Content}
-use Rattle.cif.specs.declared.content.Content.TheVariants.{Header, Schedule, Operator, Origin, Intermediate, Terminus, Unread}
+use Rattle.cif.specs.declared.content.Content.TheVariants.{Operator, Origin, Intermediate, Terminus, Unread}
 use Rattle.cif.specs.declared.identity.Identity.{Identity}
 use Rattle.cif.specs.declared.identity.Identity.TheVariants.{Trailer, BasicExtra, Origin as IsOrigin, Intermediate as IsIntermediate, Terminus as IsTerminus}
 use Rattle.cif.specs.declared.refusal.Refusal.TheVariants.{OutOfPlace, TooManyRows, StoreFull}
-use Rattle.cif.specs.declared.refusal.ColumnFault.{ColumnFault}
 use Rattle.cif.specs.Refusals.{Line, line, uppermost, fault_at, then}
 use Rattle.cif.specs.Fields.{operator_in, origin_in, intermediate_in, terminus_in}
 use Rattle.cif.specs.Reading.{content_in}
-use Rattle.schedule.specs.declared.transaction.Change.{Change}
 use Rattle.schedule.specs.Building.{with_operator, with_call, with_destination, bringing, bringing_lines}
 use Rattle.extract.specs.declared.stage.Stage.{Stage}
-use Rattle.extract.specs.declared.stage.Stage.TheVariants.{Idle, Between, Begun, Extra, Running, Changed, Complete}
+use Rattle.extract.specs.declared.stage.Stage.TheVariants.{Between, Begun, Extra, Running}
 use Rattle.extract.specs.Stages.{next_stage, is_identity, is_reading, has_room}
-use Rattle.extract.specs.Progress.{Progress, after}
+use Rattle.extract.specs.Progress.{after}
 use Rattle.extract.specs.Judging.{Standing, is_misplaced, taken_by, admitted, judged, room_lines, content_lines, Told}
 use Rattle.extract.specs.Seen.{moved}
 use Rattle.extract.proofs.Lines.{or_next, uppermost_both}

@@ -1,4 +1,6 @@
 // An extract as it is read: stages, the transaction being read, what a row does.
+#![tactic(auto)]
+
 pub mod asking;
 pub mod extract;
 pub mod moving;

@@ -1,4 +1,6 @@
 // Files of rows.
+#![tactic(auto)]
+
 ghost use Rattle.std.specs.Prelude.{◌≡◌, ◌+◌, ◌<◌, ◌≤◌, length, take, drop};
 ghost use Rattle.files.specs.Files.{first_row, other_rows};
 

@@ -1,5 +1,5 @@
 -- Bytes, and the alphabets that the fields of a row are written in.
-use Rattle.std.specs.Prelude.{ℕ, ◌+◌, ◌-◌, ◌*◌, Bool, true, false, cond, ◌&&◌, ◌||◌, List, [], ◌∷◌, length, take, drop, Some, None, Option, ◌==◌, nat_le, slice_index}
+use Rattle.std.specs.Prelude.{ℕ, ◌-◌, Bool, true, cond, ◌&&◌, ◌||◌, List, [], ◌∷◌, take, drop, Some, None, Option, ◌==◌, nat_le, slice_index}
 use Rattle.forms.specs.declared.text.Alphabet.{Alphabet}
 use Rattle.forms.specs.declared.text.Alphabet.TheVariants.{Letters, Digits, Flags, Names, Labels, Blanks}
 

@@ -1,5 +1,5 @@
 -- The forms of the fields: what bytes mean, or none where they lack the form.
-use Rattle.std.specs.Prelude.{ℕ, ◌+◌, ◌-◌, ◌*◌, ◌/◌, ◌%◌, Bool, true, false, cond, not, ◌&&◌, ◌||◌, List, [], ◌∷◌, map, length, Some, None, Option, ◌==◌, nat_eq, nat_lt, slice_index}
+use Rattle.std.specs.Prelude.{ℕ, ◌+◌, ◌-◌, ◌*◌, Bool, true, cond, ◌&&◌, ◌||◌, List, [], ◌∷◌, map, length, Some, None, Option, ◌==◌, nat_eq, nat_lt, slice_index}
 use Rattle.calendar.specs.Calendar.{dated}
 use Rattle.forms.specs.declared.text.Alphabet.{Alphabet}
 use Rattle.forms.specs.declared.text.Alphabet.TheVariants.{Flags, Names}

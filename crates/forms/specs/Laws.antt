@@ -1,5 +1,5 @@
 -- What the forms come to, in other words, and the worked cases.
-use Rattle.std.specs.Prelude.{◌≡◌, ℕ, ◌<◌, ◌≤◌, true, List, [], ◌∷◌, map, length, Some, None, codes, Option, slice_index}
+use Rattle.std.specs.Prelude.{◌≡◌, ℕ, ◌<◌, ◌≤◌, true, List, [], ◌∷◌, map, length, Some, None, codes, slice_index}
 use Rattle.forms.specs.Bytes.{is_name}
 use Rattle.forms.specs.Forms.{uid_in, date_in, time_in, is_tiploc}
 

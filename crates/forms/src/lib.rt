@@ -1,4 +1,6 @@
 // The forms of a row's fields. Each reader takes any bytes, and answers what they mean or that they lack the form.
+#![tactic(auto)]
+
 pub mod letters;
 pub mod numbers;
 pub mod places;

@@ -1,4 +1,6 @@
 // Tables of keyed elements in any order, over slots that a caller lends.
+#![tactic(auto)]
+
 pub mod edits;
 pub mod loose;
 pub mod moves;

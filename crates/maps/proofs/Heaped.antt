@@ -1,9 +1,9 @@
 -- A map whose entries stand in any order.
-use Rattle.std.proofs.Common.{◌≡◌, ℕ, zero, suc, ◌+◌, ◌<◌, ◌≤◌, Bool, true, false, cond, not, ◌&&◌, List, [], ◌∷◌, ◌++◌, length, get_or, take, set, is_some, Some, None, Option, sym, refl, ap, ◌∙◌, subst, inl, inr, arith}
-use Rattle.std.proofs.lemmas.Bool.{cases_Bool, both_ways, and_parts, and_from, not-true, not_from_false, false≢true, true≢false}
+use Rattle.std.proofs.Common.{◌≡◌, ℕ, zero, suc, ◌<◌, Bool, true, false, cond, not, List, [], ◌∷◌, ◌++◌, length, get_or, set, is_some, Some, None, Option, sym, refl, ap, ◌∙◌, subst, inl, inr, arith}
+use Rattle.std.proofs.lemmas.Bool.{cases_Bool, both_ways, and_parts, and_from, not-true, true≢false}
 use Rattle.maps.specs.Orders.{Lawful, same}
-use Rattle.maps.specs.Places.{Passed, Found}
-use Rattle.maps.specs.Maps.{after, ascending, lookup, including, excluding, ceiling, gathered, apart}
+use Rattle.maps.specs.Places.{Passed}
+use Rattle.maps.specs.Maps.{lookup, including, excluding, gathered, apart}
 use Rattle.maps.proofs.Maps.{Stand, first, last, level, swap_cond, stand, same_first, same_last, same_level, same_is, some_none, lookup_including, lookup_excluding, same_maps, ascending_including, ascending_excluding, ascending_gathered, lookup_gathered}
 
 none_from : {X : Type 0} (o : Option X) → is_some o ≡ false → o ≡ None

@@ -1,9 +1,9 @@
 -- How many entries a map has after an edit of a key that is there.
-use Rattle.std.proofs.Common.{◌≡◌, ℕ, suc, Bool, true, false, cond, ◌&&◌, List, [], ◌∷◌, length, is_some, Some, None, sym, refl, ap, ◌∙◌, subst}
+use Rattle.std.proofs.Common.{◌≡◌, suc, Bool, true, List, [], ◌∷◌, length, is_some, Some, sym, refl, ap, ◌∙◌}
 use Rattle.std.proofs.lemmas.Bool.{both_ways, and_parts, true≢false, cond-false}
 use Rattle.maps.specs.Orders.{Lawful, same}
 use Rattle.maps.specs.Maps.{after, ascending, lookup, including, excluding}
-use Rattle.maps.proofs.Maps.{Stand, first, last, level, stand, same_first, lookup_after, after_head}
+use Rattle.maps.proofs.Maps.{first, last, level, stand, same_first, lookup_after, after_head}
 
 module _ {E K : Type 0} (before : K → K → Bool) (key : E → K) (lawful : Lawful before) where
   later : (y : E) (ys : List E) (k : K) → before (key y) k ≡ true → is_some (lookup before key (y ∷ ys) k) ≡ true → is_some (lookup before key ys k) ≡ true

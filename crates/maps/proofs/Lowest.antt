@@ -1,11 +1,11 @@
 -- The lowest key that is not before another, of a map with one entry more.
-use Rattle.std.proofs.Common.{◌≡◌, ℕ, zero, suc, ◌+◌, ◌-◌, ◌<◌, ◌≤◌, Bool, true, false, cond, not, ◌&&◌, List, [], ◌∷◌, ◌++◌, length, get_or, take, drop, Some, None, Option, sym, refl, ap, ◌∙◌, subst, inl, inr, arith}
+use Rattle.std.proofs.Common.{◌≡◌, ℕ, ◌+◌, ◌-◌, ◌<◌, ◌≤◌, Bool, true, false, cond, List, [], ◌∷◌, length, get_or, take, drop, Some, None, Option, sym, refl, ap, ◌∙◌, inl, inr, arith}
 use Rattle.std.proofs.lemmas.Bool.{cases_Bool, both_ways, and_parts}
 use Rattle.std.proofs.lemmas.List.{drop_more, drop_all, get_or-take, get_or_default, length-take-le}
 use Rattle.maps.specs.Orders.{Lawful, same}
 use Rattle.maps.specs.Places.{Passed, Found}
 use Rattle.maps.specs.Maps.{after, ascending, including, ceiling, gathered, lower}
-use Rattle.maps.proofs.Maps.{Stand, first, last, level, stand, asymmetric, after_head, ascending_gathered}
+use Rattle.maps.proofs.Maps.{first, last, level, stand, asymmetric, after_head, ascending_gathered}
 
 module _ {E K : Type 0} (before : K → K → Bool) (key : E → K) (lawful : Lawful before) where
   lower_after : (a : K) (m : List E) (k : K) → after before key a m ≡ true → lower before a (ceiling before key m k) ≡ Some a

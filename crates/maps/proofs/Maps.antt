@@ -1,9 +1,8 @@
 -- Finite maps as lists with rising keys: what each edit does to each look-up, and that look-ups decide a map.
-use Rattle.std.proofs.Common.{◌≡◌, ℕ, zero, suc, ◌+◌, ◌<◌, ◌≤◌, Bool, true, false, cond, not, ◌&&◌, List, [], ◌∷◌, ◌++◌, length, get_or, take, set, is_some, Some, None, Option, sym, refl, ap, ◌∙◌, subst, inl, inr, ⊎_elim, arith}
-use Rattle.std.proofs.lemmas.Bool.{cases_Bool, both_ways, and_parts, and_from, and_left, and_right, not-true, not_from_true, not_from_false, false≢true, true≢false}
+use Rattle.std.proofs.Common.{◌≡◌, ℕ, Bool, true, false, cond, not, List, [], ◌∷◌, Some, None, sym, refl, ap, ◌∙◌, subst, inl, inr, ⊎_elim, arith}
+use Rattle.std.proofs.lemmas.Bool.{cases_Bool, both_ways, and_parts, and_from, and_left, and_right, not-true, not_from_true, not_from_false, false≢true}
 use Rattle.maps.specs.Orders.{Lawful, same}
-use Rattle.maps.specs.Places.{Ascends, Under, Over, Passed, Hit, Miss, Found}
-use Rattle.maps.specs.Maps.{after, ascending, lookup, including, excluding, ceiling, gathered, apart}
+use Rattle.maps.specs.Maps.{after, ascending, lookup, including, excluding, gathered}
 
 -- How two keys stand.
 pub data Stand {K : Type 0} (before : K → K → Bool) (a b : K) : Type 0 where

@@ -1,10 +1,10 @@
 -- A map that stands in the order of its keys: what the place of a key says of the map.
-use Rattle.std.proofs.Common.{◌≡◌, ℕ, zero, suc, ◌+◌, ◌<◌, ◌≤◌, Bool, true, false, cond, not, ◌&&◌, List, [], ◌∷◌, ◌++◌, length, get_or, take, set, Some, None, Option, sym, refl, ap, ◌∙◌, subst, arith}
+use Rattle.std.proofs.Common.{◌≡◌, ℕ, zero, suc, ◌<◌, ◌≤◌, Bool, true, false, List, [], ◌∷◌, length, get_or, take, set, Some, None, refl, ap, arith}
 use Rattle.std.specs.List.{insert, remove}
 use Rattle.std.proofs.lemmas.List.{get_or-take, length-take-le}
-use Rattle.std.proofs.lemmas.Bool.{both_ways, and_parts, and_from}
-use Rattle.maps.specs.Orders.{Lawful, same}
-use Rattle.maps.specs.Places.{Ascends, Under, Over, Passed, Hit, Miss, Found}
+use Rattle.std.proofs.lemmas.Bool.{and_parts}
+use Rattle.maps.specs.Orders.{Lawful}
+use Rattle.maps.specs.Places.{Ascends, Under, Hit, Miss}
 use Rattle.maps.specs.Maps.{after, ascending, lookup, including, excluding, ceiling}
 use Rattle.maps.proofs.Maps.{same_first, same_level, lookup_after}
 

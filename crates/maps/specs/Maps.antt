@@ -1,5 +1,5 @@
 -- A finite map as the list of its elements, whose keys rise strictly. Two maps with the same look-ups are the same list.
-use Rattle.std.specs.Prelude.{Bool, true, false, cond, not, ◌&&◌, List, [], ◌∷◌, is_some, Some, None, Option}
+use Rattle.std.specs.Prelude.{Bool, true, cond, not, ◌&&◌, List, [], ◌∷◌, is_some, Some, None, Option}
 use Rattle.maps.specs.Orders.{same}
 
 module _ {E K : Type 0} (before : K → K → Bool) (key : E → K) where

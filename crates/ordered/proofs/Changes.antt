@@ -1,9 +1,9 @@
 -- What became of a table after a search and a change at the place that it found.
-use Rattle.std.proofs.Common.{◌≡◌, ℕ, ◌<◌, ◌≤◌, Bool, true, false, cond, List, length, get_or, drop, set, sym, refl, ap, ◌∙◌, subst, arith}
+use Rattle.std.proofs.Common.{◌≡◌, ℕ, ◌<◌, ◌≤◌, Bool, true, false, cond, List, length, drop, set, sym, ap, ◌∙◌, subst, arith}
 use Rattle.std.specs.List.{insert, remove}
 use Rattle.std.proofs.lemmas.List.{length-take-le}
 use Rattle.maps.specs.Orders.{Lawful}
-use Rattle.maps.specs.Maps.{ascending, including, excluding}
+use Rattle.maps.specs.Maps.{ascending, including}
 use Rattle.maps.proofs.Maps.{ascending_including, ascending_excluding}
 use Rattle.maps.specs.Places.{Hit, Miss}
 use Rattle.ordered.specs.declared.slots.Slots.{Slots}

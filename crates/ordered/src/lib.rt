@@ -1,4 +1,6 @@
 // Tables of keyed elements over slots that a caller lends.
+#![tactic(auto)]
+
 pub mod halving;
 pub mod keys;
 pub mod moves;

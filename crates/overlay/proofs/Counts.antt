@@ -1,13 +1,13 @@
 -- How many keys there are, transaction by transaction.
-use Rattle.std.proofs.Common.{◌≡◌, ℕ, zero, suc, ◌+◌, ◌-◌, ◌<◌, ◌≤◌, Bool, true, false, cond, ◌&&◌, List, [], ◌∷◌, length, get_or, take, is_some, sym, refl, ap, ◌∙◌, subst, arith}
+use Rattle.std.proofs.Common.{◌≡◌, ℕ, zero, suc, ◌+◌, ◌-◌, ◌<◌, Bool, true, cond, List, [], ◌∷◌, length, get_or, take, is_some, sym, refl, ap, ◌∙◌}
 use Rattle.std.proofs.lemmas.List.{take_more}
 use Rattle.std.proofs.lemmas.Bool.{and_parts, and_from}
 use Rattle.schedule.specs.declared.record.Record.{Record}
 use Rattle.schedule.specs.declared.transaction.Change.{Change}
 use Rattle.schedule.specs.Transactions.{changed_key, is_lawful, every_lawful}
 use Rattle.timetable.specs.Timetables.{schedule_of, IsMap}
-use Rattle.overlay.specs.Overlays.{done_to, done_all, leaves}
-use Rattle.overlay.proofs.Dones.{all_map, done_push, done_count, some_there}
+use Rattle.overlay.specs.Overlays.{done_all, leaves}
+use Rattle.overlay.proofs.Dones.{all_map, done_push, done_count}
 use Rattle.overlay.proofs.Lasts.{no_change}
 
 pub lawful_take : (n : ℕ) (cs : List Change) → every_lawful cs ≡ true → every_lawful (take n cs) ≡ true

@@ -1,12 +1,11 @@
 -- The last transaction on a key, and what it leaves there.
-use Rattle.std.proofs.Common.{◌≡◌, ℕ, ◌+◌, ◌<◌, Bool, true, false, cond, List, [], ◌∷◌, length, get_or, drop, Some, None, Option, sym, refl, ap, ◌∙◌}
+use Rattle.std.proofs.Common.{◌≡◌, ℕ, ◌+◌, ◌<◌, Bool, cond, List, [], length, get_or, drop, Some, Option, sym, ap, ◌∙◌}
 use Rattle.std.proofs.lemmas.List.{at_drop_more}
 use Rattle.forms.specs.declared.letters.Stp.TheVariants.{Cancellation}
 use Rattle.maps.specs.Orders.{same}
 use Rattle.schedule.specs.declared.key.Key.{Key}
-use Rattle.schedule.specs.declared.record.Record.{Record}
 use Rattle.schedule.specs.declared.transaction.Change.{Change}
-use Rattle.schedule.specs.declared.transaction.Change.TheVariants.{New, Revise, Delete}
+use Rattle.schedule.specs.declared.transaction.Change.TheVariants.{New}
 use Rattle.schedule.specs.Keys.{key_before}
 use Rattle.schedule.specs.Transactions.{changed_key}
 use Rattle.overlay.specs.Overlays.{last_from, last_on}

@@ -1,5 +1,5 @@
 -- The overlay: a map with pending transactions done to it in order.
-use Rattle.std.specs.Prelude.{◌≡◌, ℕ, ◌≤◌, Bool, true, false, cond, max, List, [], ◌∷◌, ◌++◌, length, take, Some, None, fold, Option}
+use Rattle.std.specs.Prelude.{ℕ, cond, max, List, [], ◌∷◌, length, take, Some, None, fold, Option}
 use Rattle.maps.specs.Orders.{same}
 use Rattle.schedule.specs.declared.key.Key.{Key}
 use Rattle.schedule.specs.declared.record.Record.{Record}
@@ -7,7 +7,7 @@ use Rattle.schedule.specs.declared.transaction.Change.{Change}
 use Rattle.schedule.specs.declared.transaction.Change.TheVariants.{New, Revise, Delete}
 use Rattle.schedule.specs.Keys.{key_before}
 use Rattle.schedule.specs.Transactions.{changed_key}
-use Rattle.timetable.specs.Timetables.{schedule_of, with_schedule, without_key}
+use Rattle.timetable.specs.Timetables.{with_schedule, without_key}
 use Rattle.overlay.specs.declared.pending.Pending.{Pending}
 use Rattle.overlay.specs.declared.overlay.Overlay.{Overlay}
 

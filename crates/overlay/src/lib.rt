@@ -1,4 +1,6 @@
 // Pending transactions, and the overlay that they make over any store.
+#![tactic(auto)]
+
 pub mod as_timetable;
 pub mod asking;
 pub mod joining;

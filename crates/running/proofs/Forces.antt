@@ -1,13 +1,12 @@
 -- Why at most one schedule is in force, and which schedules matter.
-use Rattle.std.proofs.Common.{◌≡◌, ℕ, ◌<◌, ◌≤◌, Bool, true, false, cond, ◌&&◌, leb, ◌⊎◌, List, get_or, Some, None, Option, sym, refl, ap, ◌∙◌, subst, inl, inr, ⊎_elim, arith}
-use Rattle.std.proofs.lemmas.Bool.{le-leb, and_from, both_ways, cases_Bool}
-use Rattle.calendar.specs.Calendar.{weekday}
+use Rattle.std.proofs.Common.{◌≡◌, ℕ, true, false, leb, List, Some, None, sym, ap, ◌∙◌, ⊎_elim, arith}
+use Rattle.std.proofs.lemmas.Bool.{le-leb, and_from, both_ways}
 use Rattle.forms.specs.declared.letters.Stp.{Stp}
 use Rattle.schedule.specs.declared.key.Key.{Key}
 use Rattle.schedule.specs.declared.record.Record.{Record}
-use Rattle.schedule.specs.Keys.{rank_of, key_before}
+use Rattle.schedule.specs.Keys.{rank_of}
 use Rattle.schedule.specs.Records.{key_of}
-use Rattle.schedule.specs.Orders.{key_total, same_rank}
+use Rattle.schedule.specs.Orders.{same_rank}
 use Rattle.timetable.specs.Timetables.{schedule_of, without_key, IsMap}
 use Rattle.timetable.proofs.Keys.{keep}
 use Rattle.running.specs.Running.{Holds, Candidate, Outranks, InForce, covering}

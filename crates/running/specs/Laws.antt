@@ -1,10 +1,10 @@
 -- What being in force comes to.
-use Rattle.std.specs.Prelude.{◌≡◌, ℕ, Bool, true, false, List, [], ◌∷◌}
+use Rattle.std.specs.Prelude.{◌≡◌, ℕ, false, List}
 use Rattle.schedule.specs.declared.key.Key.{Key}
 use Rattle.schedule.specs.declared.record.Record.{Record}
 use Rattle.schedule.specs.Records.{key_of}
 use Rattle.timetable.specs.Timetables.{schedule_of, without_key, IsMap}
-use Rattle.running.specs.Running.{Candidate, InForce, covering}
+use Rattle.running.specs.Running.{InForce, covering}
 
 -- at most one schedule of a train is in force on a day
 abbrev pub OneInForce : Type 0

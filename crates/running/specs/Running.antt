@@ -1,7 +1,6 @@
 -- Which schedule of a train is in force on a day.
-use Rattle.std.specs.Prelude.{◌≡◌, ℕ, ◌<◌, ◌≤◌, Bool, true, false, not, ◌&&◌, ◌||◌, ◌⊎◌, List, get_or, Some, None, ◌==◌, nat_le, nat_lt, slice_index_or}
+use Rattle.std.specs.Prelude.{◌≡◌, ℕ, ◌<◌, ◌≤◌, Bool, true, false, not, ◌&&◌, ◌||◌, ◌⊎◌, List, get_or, Some, ◌==◌, nat_le, nat_lt, slice_index_or}
 use Rattle.calendar.specs.Calendar.{weekday}
-use Rattle.schedule.specs.declared.key.Key.{Key}
 use Rattle.schedule.specs.declared.record.Record.{Record}
 use Rattle.schedule.specs.Keys.{rank_of}
 use Rattle.schedule.specs.Records.{key_of}

@@ -1,4 +1,6 @@
 // Examples of what stores and extracts do, run as tests.
+#![tactic(auto)]
+
 use cif::content::Location;
 use forms::letters::Stp;
 use schedule::key::Key;

@@ -1,12 +1,11 @@
 -- A schedule with a call more is still a schedule.
-use Rattle.std.proofs.Common.{◌≡◌, ℕ, ◌+◌, ◌<◌, ◌≤◌, Bool, true, false, cond, ◌&&◌, leb, List, [], ◌∷◌, ◌++◌, length, get_or, take, drop, set, sym, refl, ap, ◌∙◌, subst, ⊎_elim, arith}
-use Rattle.std.specs.Str.{bytes_eq}
+use Rattle.std.proofs.Common.{◌≡◌, ℕ, ◌+◌, ◌<◌, ◌≤◌, Bool, true, false, cond, leb, List, [], ◌∷◌, ◌++◌, length, get_or, take, drop, set, sym, refl, ap, ◌∙◌, subst, ⊎_elim, arith}
 use Rattle.std.proofs.lemmas.Slice.Eq.{bytes_eq-Decides}
 use Rattle.std.proofs.lemmas.List.{take_more_set, drop-set-lt, drop_more}
-use Rattle.std.proofs.lemmas.Bool.{and_parts, and_from, cases_Bool, cond-true, cond-false, leb-true, le-leb}
+use Rattle.std.proofs.lemmas.Bool.{and_parts, and_from, cases_Bool, cond-false, leb-true, le-leb}
 use Rattle.cif.specs.declared.content.Location.{Location}
 use Rattle.schedule.specs.declared.record.Record.{Record}
-use Rattle.schedule.specs.Records.{is_at, visits, every_call, few_visits, is_filler, kept_calls, in_range, is_schedule, is_cancellation, bare_if_cancelled}
+use Rattle.schedule.specs.Records.{is_at, visits, every_call, few_visits, is_filler, kept_calls, in_range, is_schedule, is_cancellation}
 use Rattle.schedule.proofs.Steps.{nowhere}
 
 visits_push : (t : List ℕ) (cs : List Location) (c : Location) → visits t (cs ++ c ∷ []) ≡ cond (is_at t c) (visits t cs + 1) (visits t cs)

@@ -1,5 +1,5 @@
 -- A schedule as it is read, row by row.
-use Rattle.std.specs.Prelude.{ℕ, ◌+◌, Bool, true, false, cond, not, ◌&&◌, List, [], ◌∷◌, nat_le, slice_set}
+use Rattle.std.specs.Prelude.{ℕ, ◌+◌, Bool, cond, not, ◌&&◌, List, [], ◌∷◌, nat_le, slice_set}
 use Rattle.cif.specs.declared.content.Location.{Location}
 use Rattle.cif.specs.declared.refusal.Refusal.TheVariants.{TooManyCalls, TooManyVisits}
 use Rattle.cif.specs.Refusals.{Line, line}

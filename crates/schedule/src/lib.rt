@@ -1,4 +1,6 @@
 // Schedules: their keys, the records that hold them, and what every schedule has.
+#![tactic(auto)]
+
 pub mod building;
 pub mod check;
 pub mod key;

@@ -1,9 +1,9 @@
 -- The two stores by the tables that they keep.
-use Rattle.std.specs.Prelude.{ℕ, Bool, List}
+use Rattle.std.specs.Prelude.{Bool, List}
 use Rattle.maps.specs.Maps.{ascending, gathered, apart}
 use Rattle.ordered.specs.declared.ordered.Ordered.{Ordered}
 use Rattle.loose.specs.declared.loose.Loose.{Loose}
-use Rattle.ordered.specs.Tables.{items, room}
+use Rattle.ordered.specs.Tables.{items}
 use Rattle.schedule.specs.declared.record.Record.{Record}
 use Rattle.schedule.specs.Keys.{key_before}
 use Rattle.schedule.specs.Records.{key_of}

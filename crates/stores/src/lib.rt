@@ -1,4 +1,6 @@
 // Two stores over slots from the caller: a table in key order, and a bag in any order.
+#![tactic(auto)]
+
 pub mod bag;
 pub mod loose_store;
 pub mod new;

@@ -1,14 +1,14 @@
 -- The laws of timetables, from those of maps.
-use Rattle.std.proofs.Common.{◌≡◌, ℕ, Bool, true, false, cond, ◌&&◌, List, [], ◌∷◌, is_some, Some, None, Option, sym, refl, ap, ◌∙◌, subst, ⊎_elim, arith}
+use Rattle.std.proofs.Common.{◌≡◌, Bool, true, false, List, [], ◌∷◌, is_some, Some, None, Option, sym, refl, ap, ◌∙◌, subst, ⊎_elim}
 use Rattle.std.proofs.lemmas.Bool.{and_parts, cases_Bool, both_ways, cond-true, cond-false, true≢false}
-use Rattle.maps.specs.Orders.{Lawful, same}
+use Rattle.maps.specs.Orders.{same}
 use Rattle.maps.specs.Maps.{ascending, after}
 use Rattle.maps.proofs.Maps.{same_maps, same_level, same_is, lookup_including, lookup_excluding}
 use Rattle.schedule.specs.declared.key.Key.{Key}
 use Rattle.schedule.specs.declared.record.Record.{Record}
 use Rattle.schedule.specs.Keys.{key_before}
 use Rattle.schedule.specs.Records.{key_of}
-use Rattle.timetable.specs.Timetables.{schedule_of, with_schedule, without_key, not_before, IsMap}
+use Rattle.timetable.specs.Timetables.{schedule_of, not_before, IsMap}
 use Rattle.timetable.specs.Laws.{LookupsDecide, OthersKeep, has_key, Has, LeastOf, NotBeforeIsLeast}
 use Rattle.timetable.proofs.Valid.{key_lawful}
 

@@ -1,16 +1,13 @@
 -- Maps of schedules stay maps of schedules.
-use Rattle.std.proofs.Common.{◌≡◌, ℕ, Bool, true, false, cond, ◌&&◌, List, [], ◌∷◌, Some, None, Option, sym, refl, ap, ◌∙◌, subst, ⊎_elim, arith}
+use Rattle.std.proofs.Common.{◌≡◌, ℕ, Bool, true, false, cond, List, [], ◌∷◌, Some, Option, refl, ap, ◌∙◌, subst, arith}
 use Rattle.std.proofs.lemmas.Bool.{and_parts, and_from, cond_both}
 use Rattle.maps.specs.Orders.{Lawful, same}
-use Rattle.maps.specs.Maps.{gathered}
-use Rattle.ordered.specs.Tables.{Put, Removed}
-use Rattle.ordered.proofs.Changes.{put_rises, removal_rises}
 use Rattle.schedule.specs.declared.key.Key.{Key}
 use Rattle.schedule.specs.declared.record.Record.{Record}
 use Rattle.schedule.specs.Keys.{key_before}
 use Rattle.schedule.specs.Records.{key_of, is_schedule, every_schedule}
 use Rattle.schedule.specs.Orders.{key_irreflexive, key_transitive, key_total}
-use Rattle.timetable.specs.Timetables.{schedule_of, with_schedule, without_key, IsMap, Puts, Removes}
+use Rattle.timetable.specs.Timetables.{schedule_of, with_schedule, without_key, Puts, Removes}
 
 -- the order of keys is a total order
 pub key_lawful : Lawful key_before

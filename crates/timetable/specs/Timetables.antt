@@ -1,5 +1,5 @@
 -- A timetable: a finite map from keys to schedules, each under its own key, as the list of their records in the order of the keys.
-use Rattle.std.specs.Prelude.{◌≡◌, ℕ, ◌≤◌, Bool, true, List, length, Option}
+use Rattle.std.specs.Prelude.{◌≡◌, ℕ, Bool, true, List, Option}
 use Rattle.maps.specs.Maps.{ascending, lookup, including, excluding, ceiling}
 use Rattle.ordered.specs.Tables.{Put, Removed}
 use Rattle.schedule.specs.declared.key.Key.{Key}

@@ -1,4 +1,6 @@
 // Timetables and stores: what they mean, and what may be asked of them. Whoever brings a store has only to meet these traits.
+#![tactic(auto)]
+
 ghost use Rattle.std.specs.Prelude.{◌≡◌, ℕ, ◌≤◌, Bool, true, false, List, length, is_some, is_ok};
 ghost use Rattle.std.specs.Option.{unwrap_or};
 ghost use Rattle.schedule.specs.declared.record.Record.{Record};

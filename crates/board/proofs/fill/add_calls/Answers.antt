@@ -1,4 +1,4 @@
-use Rattle.std.proofs.Common.{◌≡◌, ℕ, ◌<◌, length, sym, refl, ap, ◌∙◌, subst, arith}
+use Rattle.std.proofs.Common.{◌≡◌, ℕ, ◌<◌, length, sym, refl, ◌∙◌, subst, arith}
 use Rattle.ordered.specs.Tables.{items, room}
 use Rattle.board.specs.Filling.{Added}
 use Rattle.board.proofs.Adds.{added_none, room_for}

@@ -1,5 +1,5 @@
-use Rattle.std.proofs.Common.{◌≡◌, ◌+◌, ◌<◌, List, length, sym, refl, ap, ◌∙◌, subst, arith}
-use Rattle.ordered.specs.Tables.{items, room}
+use Rattle.std.proofs.Common.{◌+◌, ◌<◌, List, sym, refl, ap, ◌∙◌, subst, arith}
+use Rattle.ordered.specs.Tables.{items}
 use Rattle.schedule.specs.declared.record.Record.{Record}
 use Rattle.timetable.specs.Timetables.{not_before, IsMap}
 use Rattle.timetable.proofs.Nexts.{left}

@@ -1,4 +1,4 @@
-use Rattle.std.proofs.Common.{◌≡◌, sym, ap, ◌∙◌}
+use Rattle.std.proofs.Common.{sym, ap, ◌∙◌}
 use Rattle.std.proofs.lemmas.List.{at_drop_all, take_rest}
 use Rattle.forms.specs.Bytes.{is_blank, every}
 use Rattle.forms.specs.Forms.{names_then_blanks}

@@ -1,4 +1,4 @@
-use Rattle.std.proofs.Common.{ℕ, Bool, eqb, List, map, Some, Option, sym, ap, ◌∙◌, arith}
+use Rattle.std.proofs.Common.{ℕ, Bool, eqb, List, map, Some, Option, ap, ◌∙◌, arith}
 use Rattle.forms.specs.declared.text.Alphabet.TheVariants.{Flags}
 use Rattle.forms.specs.Bytes.{and_then}
 use Rattle.forms.proofs.Steps.{text_width, days_made}

@@ -1,4 +1,4 @@
-use Rattle.std.proofs.Common.{sym, refl, ap, ◌∙◌, arith}
+use Rattle.std.proofs.Common.{sym, ap, ◌∙◌, arith}
 use Rattle.maps.specs.Maps.{lower}
 use Rattle.maps.proofs.Lowest.{lowest_none, lowest_kept, lowest_new}
 use Rattle.maps.specs.Orders.{Lawful}

@@ -1,4 +1,4 @@
-use Rattle.std.proofs.Common.{sym, ap, ◌∙◌, arith, rules}
+use Rattle.std.proofs.Common.{sym, ap, ◌∙◌, arith}
 use Rattle.maps.specs.Orders.{Lawful}
 use Rattle.ordered.proofs.Halves.{under_more, over_less}
 use Rattle.ordered.proofs.halving.lower_bound.Given as given

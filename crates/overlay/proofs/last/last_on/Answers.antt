@@ -1,10 +1,9 @@
-use Rattle.std.proofs.Common.{◌≡◌, true, false, get_or, sym, ap, ◌∙◌}
+use Rattle.std.proofs.Common.{true, false, sym, ap, ◌∙◌}
 use Rattle.std.proofs.lemmas.List.{at_drop_all}
 use Rattle.maps.specs.Orders.{same}
 use Rattle.schedule.specs.Keys.{key_before}
-use Rattle.schedule.specs.Transactions.{changed_key}
 use Rattle.overlay.specs.Overlays.{last_from}
-use Rattle.overlay.proofs.Lasts.{no_change, last_more}
+use Rattle.overlay.proofs.Lasts.{last_more}
 use Rattle.overlay.proofs.last.last_on.Goals as goal
 use Rattle.overlay.proofs.last.last_on.Goals.{then-is_same, else-is_same}
 

@@ -1,8 +1,6 @@
-use Rattle.std.proofs.Common.{◌≡◌, ℕ, ◌+◌, ◌-◌, ◌≤◌, min, Bool, true, cond, List, length, get_or, take, is_some, sym, refl, ap, ◌∙◌, subst, arith}
+use Rattle.std.proofs.Common.{◌≡◌, ℕ, ◌+◌, ◌-◌, ◌≤◌, cond, length, get_or, take, is_some, sym, refl, ap, ◌∙◌, subst, arith}
 use Rattle.std.proofs.lemmas.List.{take_all}
 use Rattle.std.proofs.lemmas.Bool.{cond-true, cond-false}
-use Rattle.schedule.specs.declared.key.Key.{Key}
-use Rattle.schedule.specs.declared.record.Record.{Record}
 use Rattle.schedule.specs.Transactions.{changed_key}
 use Rattle.timetable.specs.Timetables.{schedule_of, IsMap}
 use Rattle.overlay.specs.Overlays.{done_all, leaves}

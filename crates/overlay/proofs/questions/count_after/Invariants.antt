@@ -1,5 +1,4 @@
 use Rattle.std.proofs.Common.{◌≡◌, ◌+◌, ◌≤◌, length, take}
-use Rattle.timetable.specs.Timetables.{IsMap}
 use Rattle.overlay.specs.Overlays.{done_all}
 use Rattle.overlay.proofs.questions.count_after.Given as goal
 

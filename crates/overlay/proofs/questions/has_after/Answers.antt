@@ -1,4 +1,4 @@
-use Rattle.std.proofs.Common.{◌≡◌, is_some, sym, refl, ap, ◌∙◌}
+use Rattle.std.proofs.Common.{is_some, sym, ap, ◌∙◌}
 use Rattle.timetable.specs.Timetables.{schedule_of}
 use Rattle.overlay.proofs.Dones.{after_last, all_look}
 use Rattle.overlay.proofs.questions.has_after.Goals as goal

@@ -1,11 +1,10 @@
-use Rattle.std.proofs.Common.{◌≡◌, false, is_ok, Ok, Err, sym, refl, ap, ◌∙◌}
+use Rattle.std.proofs.Common.{◌≡◌, is_ok, Err, sym, ap, ◌∙◌}
 use Rattle.std.proofs.lemmas.Result.{MatchResult-at_ok, err_from_is_err_and}
 use Rattle.std.proofs.lemmas.Bool.{true≢false}
-use Rattle.cif.specs.Rows.{whole_in}
 use Rattle.cif.specs.Refusals.{in_row}
 use Rattle.cif.specs.Reading.{letters_in}
 use Rattle.extract.specs.Judging.{is_misplaced}
-use Rattle.controller.specs.Shown.{progress_in, standing_in}
+use Rattle.controller.specs.Shown.{standing_in}
 use Rattle.controller.proofs.Heard.{beside_ok, beside_err, heard_ok, heard_err, told_err}
 use Rattle.controller.proofs.Whole.{same_controller}
 use Rattle.controller.proofs.controller.Controller.hear.Goals as goal

@@ -1,4 +1,4 @@
-use Rattle.std.proofs.Common.{◌≡◌, sym, refl, ap, ◌∙◌}
+use Rattle.std.proofs.Common.{◌≡◌, ap, ◌∙◌}
 use Rattle.extract.specs.Progress.{idle}
 use Rattle.extract.specs.Seen.{seen}
 use Rattle.overlay.specs.Overlays.{pending_in}

@@ -1,4 +1,4 @@
-use Rattle.std.proofs.Common.{◌≡◌, sym, refl, ap, ◌∙◌}
+use Rattle.std.proofs.Common.{sym, refl, ap, ◌∙◌}
 use Rattle.controller.proofs.Called.{no_row_told, no_row_ok}
 use Rattle.controller.proofs.Whole.{same_controller}
 use Rattle.controller.proofs.controller.Controller.turn.Goals as goal

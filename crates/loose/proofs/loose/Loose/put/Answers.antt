@@ -1,6 +1,6 @@
 use Rattle.std.proofs.Common.{sym, ap, subst, arith}
 use Rattle.std.proofs.lemmas.Bool.{true≢false}
-use Rattle.ordered.specs.Tables.{items, room, Apart}
+use Rattle.ordered.specs.Tables.{room, Apart}
 use Rattle.ordered.proofs.Changes.{kept_since, all_kept}
 use Rattle.loose.proofs.Piles.{replaced, pushed, refused}
 use Rattle.maps.specs.Orders.{Lawful}

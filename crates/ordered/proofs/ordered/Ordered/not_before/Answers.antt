@@ -1,4 +1,4 @@
-use Rattle.std.proofs.Common.{Some, sym, ap, ◌∙◌}
+use Rattle.std.proofs.Common.{Some, ap, ◌∙◌}
 use Rattle.maps.specs.Orders.{Lawful}
 use Rattle.ordered.proofs.Lookups.{next_is, none_is}
 use Rattle.ordered.proofs.ordered.Ordered.not_before.Given as given

@@ -1,4 +1,4 @@
-use Rattle.std.proofs.Common.{sym, ap, ◌∙◌, subst, arith}
+use Rattle.std.proofs.Common.{ap, arith}
 use Rattle.maps.specs.Orders.{Lawful}
 use Rattle.ordered.proofs.Halves.{hit, miss_here, miss_end}
 use Rattle.ordered.proofs.slots.Slots.search.Given as given

@@ -1,4 +1,4 @@
-use Rattle.std.proofs.Common.{◌≡◌, ℕ, ◌<◌, Bool, false, length, sym, subst, rules}
+use Rattle.std.proofs.Common.{◌≡◌, ℕ, ◌<◌, false, length, subst, rules}
 use Rattle.schedule.specs.Records.{is_cancellation}
 use Rattle.schedule.proofs.Calls.{call_valid}
 use Rattle.schedule.proofs.schedule.Schedule.with_call.Goals as goal

@@ -1,4 +1,4 @@
-use Rattle.std.proofs.Common.{is_some, unwrap_or, sym, ap, ◌∙◌}
+use Rattle.std.proofs.Common.{is_some, unwrap_or, ap, ◌∙◌}
 use Rattle.std.proofs.lemmas.Bool.{true≢false, both_ways}
 use Rattle.schedule.specs.Records.{is_schedule}
 use Rattle.timetable.proofs.Valid.{found_valid}
