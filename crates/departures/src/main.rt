@@ -27,7 +27,7 @@ fn run_rows(rt: &HostRuntime, names: &[String]) -> anyhow::Result<()> {
         let tally = rows::print_file(rt, name.as_str())?;
         total.add(&tally);
     }
-    rows::print_total(rt, names.len() as u64, "read", &total)
+    rows::print_total(rt, names.len() as u64, &total)
 }
 
 fn run_stores(rt: &HostRuntime, capacity: &str, names: &[String]) -> anyhow::Result<()> {
@@ -134,7 +134,7 @@ fn run_extract_on<S: Store + Drop>(
             name.as_str(),
         )?;
     }
-    rows::print_total(rt, names.len() as u64, "done", &tally)
+    rows::print_outcome(rt, names.len() as u64, "done", &tally)
 }
 
 fn run_extract(

@@ -114,7 +114,17 @@ pub fn print_file(rt: &HostRuntime, name: &str) -> anyhow::Result<Tally> {
 }
 
 // Prints what came of all files, and each number that was told.
-pub fn print_total(rt: &HostRuntime, files: u64, verb: &str, total: &Tally) -> anyhow::Result<()> {
+pub fn print_total(rt: &HostRuntime, files: u64, total: &Tally) -> anyhow::Result<()> {
+    print_outcome(rt, files, "read", total)
+}
+
+// The same, where rows were not only read: the verb says what was done with them.
+pub fn print_outcome(
+    rt: &HostRuntime,
+    files: u64,
+    verb: &str,
+    total: &Tally,
+) -> anyhow::Result<()> {
     let done = total.done;
     let refused = total.refused();
     let rows = done.saturating_add(refused);

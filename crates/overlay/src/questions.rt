@@ -33,6 +33,19 @@ fn schedule_left(change: &Change) -> Option<Schedule>
     }
 }
 
+// Whether a key is there. Its schedule is copied to `place`, which is left as it was where the key is absent. That the timetable
+// means a map is what its count tells.
+fn find_in<T: Timetable>(timetable: &mut T, key: Key, place: &mut Schedule) -> bool
+    ensures found { result ≡ is_some (schedule_of (T.Timetable.map timetable.old) key) }
+    ensures copied { place.new.plain ≡ unwrap_or (schedule_of (T.Timetable.map timetable.old) key) place.old.plain }
+    ensures left { result ≡ false → place.new ≡ place.old }
+    ensures is_map { IsMap (T.Timetable.map timetable.old) }
+    ensures same { timetable.new ≡ timetable.old }
+{
+    let _ = timetable.count();
+    timetable.find(key, place)
+}
+
 // Whether a key is there after some transactions.
 pub(crate) fn has_after<T: Timetable>(timetable: &mut T, changes: &[Change], key: Key) -> bool
     requires lawful { every_lawful changes.now ≡ true }
@@ -41,7 +54,7 @@ pub(crate) fn has_after<T: Timetable>(timetable: &mut T, changes: &[Change], key
     ensures same { timetable.new ≡ timetable.old }
 {
     let mut place = Schedule::blank();
-    let there = timetable.find(key, &mut place);
+    let there = find_in(timetable, key, &mut place);
     match last_on(changes, key) {
         Some(change) => sets(&change),
         None => there,
@@ -63,7 +76,7 @@ pub(crate) fn find_after<T: Timetable>(
     ensures same { timetable.new ≡ timetable.old }
 {
     let mut here = *place;
-    let there = timetable.find(key, &mut here);
+    let there = find_in(timetable, key, &mut here);
     match last_on(changes, key) {
         Some(change) => match schedule_left(&change) {
             Some(schedule) => {

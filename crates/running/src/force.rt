@@ -1,12 +1,14 @@
 // Which schedule of a train is in force.
-ghost use Rattle.std.specs.Prelude.{◌≡◌, Bool, true, false, not, ◌&&◌, ◌||◌, List, if◌then◌else◌, Some};
+ghost use Rattle.std.specs.Prelude.{◌≡◌, ℕ, ◌<◌, Bool, true, false, not, ◌&&◌, ◌||◌, List, if◌then◌else◌, Some};
 ghost use Rattle.schedule.specs.declared.record.Record.{Record};
+ghost use Rattle.schedule.specs.declared.key.Key.{Key};
+ghost use Rattle.schedule.specs.Keys.{key_before};
 ghost use Rattle.timetable.specs.Timetables.{schedule_of};
 ghost use Rattle.running.specs.Running.{Candidate, InForce, covering, outranking, takes};
 
 use forms::letters::Stp;
 use schedule::key::Key;
-use schedule::order::{next_in_train, rank};
+use schedule::order::rank;
 use schedule::record::Record;
 use schedule::schedule::Schedule;
 use timetable::Timetable;
@@ -33,6 +35,38 @@ fn takes_place(here: &Record, day: u16, found: bool, best: &Record) -> bool
     ensures { result ≡ takes here.now day found best.now }
 {
     covers(here, day) && (!found || outranks(here, best))
+}
+
+// The key right after another of a train.
+fn next_in_train(key: Key) -> Key
+    requires { key.from < 65535 }
+    ensures later { key_before key result ≡ true }
+    ensures tight { (q : Key) → key_before q result ≡ true → key_before key q ≡ false }
+    ensures train { result.uid ≡ key.uid }
+{
+    let Key { uid, from, stp } = key;
+    match stp {
+        Stp::Cancellation => Key {
+            uid,
+            from,
+            stp: Stp::ShortTerm,
+        },
+        Stp::ShortTerm => Key {
+            uid,
+            from,
+            stp: Stp::Overlay,
+        },
+        Stp::Overlay => Key {
+            uid,
+            from,
+            stp: Stp::Permanent,
+        },
+        Stp::Permanent => Key {
+            uid,
+            from: from + 1,
+            stp: Stp::Cancellation,
+        },
+    }
 }
 
 // Looks at the schedule of a key, and keeps it as the best where it takes its place.

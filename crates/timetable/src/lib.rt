@@ -30,7 +30,6 @@ pub trait Timetable {
         ensures found { result ≡ is_some (schedule_of (map self.old) key) }
         ensures copied { place.new.plain ≡ unwrap_or (schedule_of (map self.old) key) place.old.plain }
         ensures left { result ≡ false → place.new ≡ place.old }
-        ensures is_map { IsMap (map self.old) }
         ensures same { self.new ≡ self.old };
 
     // The least key that is not before a probe, which may lie past any key.

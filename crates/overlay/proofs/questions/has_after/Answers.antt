@@ -7,16 +7,16 @@ pub returns-in-Some : goal.returns-in-Some
 returns-in-Some g c =
     let m = g.T.Timetable.map c.args.timetable.now in
     record {
-      value = c.sets.ensures ∙ ap (λ o. is_some (after_last o (schedule_of m c.args.key))) c.in-Some.ensures ∙ sym (ap is_some (all_look m c.args.changes.now c.args.key c.find-there.ensures.is_map c.requires.lawful));
-      is_map = c.find-there.ensures.is_map;
-      same = c.find-there.ensures.same;
+      value = c.sets.ensures ∙ ap (λ o. is_some (after_last o (schedule_of m c.args.key))) c.in-Some.ensures ∙ sym (ap is_some (all_look m c.args.changes.now c.args.key c.find_in-there.ensures.is_map c.requires.lawful));
+      is_map = c.find_in-there.ensures.is_map;
+      same = c.find_in-there.ensures.same;
     }
 
 pub returns-in-None : goal.returns-in-None
 returns-in-None g c =
     let m = g.T.Timetable.map c.args.timetable.now in
     record {
-      value = c.find-there.ensures.found ∙ ap (λ o. is_some (after_last o (schedule_of m c.args.key))) c.in-None.ensures ∙ sym (ap is_some (all_look m c.args.changes.now c.args.key c.find-there.ensures.is_map c.requires.lawful));
-      is_map = c.find-there.ensures.is_map;
-      same = c.find-there.ensures.same;
+      value = c.find_in-there.ensures.found ∙ ap (λ o. is_some (after_last o (schedule_of m c.args.key))) c.in-None.ensures ∙ sym (ap is_some (all_look m c.args.changes.now c.args.key c.find_in-there.ensures.is_map c.requires.lawful));
+      is_map = c.find_in-there.ensures.is_map;
+      same = c.find_in-there.ensures.same;
     }

@@ -10,6 +10,11 @@ use Rattle.running.proofs.force.in_force.Goals as goal
 pub loop-key-init : goal.loop-key-init
 loop-key-init g c = (begin _ _ _ _, refl, refl, λ _. refl)
 
+pub next_in_train-probe-requires : goal.next_in_train-probe-requires
+next_in_train-probe-requires g c =
+    let m = g.T.Timetable.map c.loop-key.timetable in
+    walk_small m c.in-Some.ensures.is_map c.loop-key.probe c.in-Some.key (next m c.loop-key.probe c.in-Some.key c.in-Some.ensures.is_map (sym c.in-Some.ensures.value))
+
 pub loop-key-smaller : goal.loop-key-smaller
 loop-key-smaller g c =
     let m = g.T.Timetable.map c.loop-key.timetable in
@@ -17,7 +22,7 @@ loop-key-smaller g c =
     subst (λ (x : List Record). left x c.next_in_train-probe.result < left m c.loop-key.probe)
     (sym (ap g.T.Timetable.map (c.consider-found.ensures.same ∙ c.in-Some.ensures.same)))
     (walk_falls m c.in-Some.ensures.is_map c.loop-key.probe c.in-Some.key n c.next_in_train-probe.result
-    (c.next_in_train-probe.ensures.later (walk_small m c.in-Some.ensures.is_map c.loop-key.probe c.in-Some.key n)))
+    c.next_in_train-probe.ensures.later)
 
 pub loop-key-preserved : goal.loop-key-preserved
 loop-key-preserved g c =

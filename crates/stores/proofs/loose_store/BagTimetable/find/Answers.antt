@@ -3,7 +3,7 @@ use Rattle.std.proofs.lemmas.Bool.{true≢false, both_ways}
 use Rattle.schedule.specs.Records.{is_schedule}
 use Rattle.timetable.proofs.Valid.{found_valid}
 use Rattle.stores.specs.Tables.{in_any_order, map_of}
-use Rattle.stores.proofs.BagMaps.{map_finds, map_rises}
+use Rattle.stores.proofs.BagMaps.{map_finds}
 use Rattle.stores.proofs.BagWhole.{same_bag}
 use Rattle.stores.proofs.loose_store.BagTimetable.find.Goals as goal
 
@@ -14,7 +14,6 @@ returns-in-Some-from_record c =
       found = ap is_some there;
       copied = c.in-Some-from_record.ensures.0 ∙ ap (λ o. unwrap_or o c.args.place.now.plain) there;
       left = λ h. absurd (true≢false h);
-      is_map = record { rising = map_rises (in_any_order c.args.self.now.rows); schedules = c.args.self.now.valid };
       same = same_bag _ _ c.in-Some.ensures.same;
     }
 
@@ -30,6 +29,5 @@ returns-in-None c =
       found = ap is_some absent;
       copied = ap (λ o. unwrap_or o c.args.place.now.plain) absent;
       left = λ _. mathlib.Core.Path.refl;
-      is_map = record { rising = map_rises (in_any_order c.args.self.now.rows); schedules = c.args.self.now.valid };
       same = same_bag _ _ c.in-None.ensures.same;
     }

@@ -13,7 +13,6 @@ returns-in-Some-from_record c =
       found = ap is_some there;
       copied = c.in-Some-from_record.ensures.0 ∙ ap (λ o. unwrap_or o c.args.place.now.plain) there;
       left = λ h. absurd (true≢false h);
-      is_map = record { rising = c.args.self.now.rising; schedules = c.args.self.now.valid };
       same = same_table _ _ c.in-Some.ensures.same;
     }
 
@@ -29,6 +28,5 @@ returns-in-None c =
       found = ap is_some absent;
       copied = ap (λ o. unwrap_or o c.args.place.now.plain) absent;
       left = λ _. mathlib.Core.Path.refl;
-      is_map = record { rising = c.args.self.now.rising; schedules = c.args.self.now.valid };
       same = same_table _ _ c.in-None.ensures.same;
     }
