@@ -12,8 +12,9 @@ returns-then-room-capacity g c =
     let named = provided_is (is_tiploc c.args.station.now) c.in-Some.code c.args.station.now c.in-Some.ensures in
     let a = c.room.ensures.value in
     let b = c.capacity.ensures.value in
+    let day : c.args.day ≤ 36524 = omega arith in
     record {
-      told = ap (λ f. Some f) c.at-then-room-capacity.ensures ∙ sym (too_few c.args.station.now c.args.day (room c.args.self.now.lines.inner) (g.S.Timetable.capacity c.args.store.now) named.0 c.if-day-gt36524.false (let t = c.if-room-capacity.true in omega arith));
+      told = ap (λ f. Some f) c.at-then-room-capacity.ensures ∙ sym (too_few c.args.station.now c.args.day (room c.args.self.now.lines.inner) (g.S.Timetable.capacity c.args.store.now) named.0 day (let t = c.if-room-capacity.true in omega arith));
       board = λ h. absurd (true≢false (sym h));
       few = λ h. absurd (true≢false (sym h));
       set = λ h. absurd (true≢false (sym h));
@@ -26,8 +27,9 @@ returns g c =
     let named = provided_is (is_tiploc c.args.station.now) c.in-Some.code c.args.station.now c.in-Some.ensures in
     let a = c.room.ensures.value in
     let b = c.capacity.ensures.value in
+    let day : c.args.day ≤ 36524 = omega arith in
     record {
-      told = sym (none_told c.args.station.now c.args.day (room c.args.self.now.lines.inner) (g.S.Timetable.capacity c.args.store.now) named.0 c.if-day-gt36524.false (let t = c.if-room-capacity.false in omega arith));
+      told = sym (none_told c.args.station.now c.args.day (room c.args.self.now.lines.inner) (g.S.Timetable.capacity c.args.store.now) named.0 day (let t = c.if-room-capacity.false in omega arith));
       board = λ _.
           subst (λ (s : List ℕ). BoardOf (g.S.Timetable.map c.args.store.now) s c.args.day (items c.set_lines.new.lines.inner)) named.1
           (subst (λ (m : List Record). BoardOf m c.in-Some.code c.args.day (items c.set_lines.new.lines.inner)) (ap g.S.Timetable.map c.capacity.ensures.same) c.set_lines.ensures.board);
