@@ -8,7 +8,7 @@ ghost use Rattle.running.specs.Running.{Candidate, InForce, covering, outranking
 
 use forms::letters::Stp;
 use schedule::key::Key;
-use schedule::order::rank;
+use schedule::order::{self, rank};
 use schedule::record::Record;
 use schedule::schedule::Schedule;
 use timetable::Timetable;
@@ -44,29 +44,7 @@ fn next_in_train(key: Key) -> Key
     ensures tight { (q : Key) → key_before q result ≡ true → key_before key q ≡ false }
     ensures train { result.uid ≡ key.uid }
 {
-    let Key { uid, from, stp } = key;
-    match stp {
-        Stp::Cancellation => Key {
-            uid,
-            from,
-            stp: Stp::ShortTerm,
-        },
-        Stp::ShortTerm => Key {
-            uid,
-            from,
-            stp: Stp::Overlay,
-        },
-        Stp::Overlay => Key {
-            uid,
-            from,
-            stp: Stp::Permanent,
-        },
-        Stp::Permanent => Key {
-            uid,
-            from: from + 1,
-            stp: Stp::Cancellation,
-        },
-    }
+    order::next_in_train(key)
 }
 
 // Looks at the schedule of a key, and keeps it as the best where it takes its place.
