@@ -43,6 +43,10 @@ last_from k o (c ∷ cs) = last_from k (cond (same key_before (changed_key c) k)
 abbrev pub last_on : Key → List Change → Option Change
 last_on k cs = last_from k None cs
 
--- how many keys an overlay may have: as many as its store, or as it has, where those are more
+-- how many keys a map of a capacity may have with transactions done to it: as many as before, or as it has, where those are more
+abbrev pub room_with : List Record → ℕ → List Change → ℕ
+room_with m capacity cs = max capacity (length (done_all m cs))
+
+-- how many keys an overlay may have
 abbrev pub room_over : {S : Type 0} → (S → List Record) → (S → ℕ) → Overlay S → ℕ
-room_over map capacity o = max (capacity o.store) (length (overlay_of map o))
+room_over map capacity o = room_with (map o.store) (capacity o.store) (pending_in o.pending)
