@@ -1,4 +1,8 @@
 // The departure board of a station and date.
+ghost use Rattle.std.specs.Prelude.{◌≡◌, min, length, IfOk};
+ghost use Rattle.ordered.specs.Tables.{items};
+ghost use Rattle.departures.specs.Stations.{filled_up};
+
 use crate::drafts::{Asked, Draft};
 use crate::words::{Text, meaning};
 use board::display::Board;
@@ -19,7 +23,7 @@ pub struct Wanted<'a> {
     pub date: &'a str,
 }
 
-// A line that no board has, for slots that hold nothing yet.
+// A line for slots that hold nothing yet.
 pub fn empty_line() -> Line {
     Line {
         key: LineKey {
@@ -35,7 +39,9 @@ pub fn empty_line() -> Line {
 }
 
 // Does what a row asks, and says how many puts were refused.
-fn do_asked<S: Store>(store: &mut S, asked: Asked) -> u64 {
+fn do_asked<S: Store>(store: &mut S, asked: Asked) -> u64
+    ensures { S.Timetable.capacity store.new ≡ S.Timetable.capacity store.old }
+{
     match asked {
         Asked::Put(schedule) => if store.put(schedule).is_ok() { 0 } else { 1 },
         Asked::Unfit(_) => 1,
@@ -47,8 +53,10 @@ fn do_asked<S: Store>(store: &mut S, asked: Asked) -> u64 {
     }
 }
 
-// Puts the schedules of a file into a store, and says how many were refused.
-pub fn load_file<S: Store>(rt: &HostRuntime, store: &mut S, name: &str) -> anyhow::Result<u64> {
+// Puts the schedules of a file into a store, and says how many were refused. Its capacity stays.
+pub fn load_file<S: Store>(rt: &HostRuntime, store: &mut S, name: &str) -> anyhow::Result<u64>
+    ensures { S.Timetable.capacity store.new ≡ S.Timetable.capacity store.old }
+{
     let bytes = fs::read(rt, name)?;
     let mut rest = bytes.as_slice();
     let mut draft = Draft::None;
@@ -65,12 +73,15 @@ pub fn load_file<S: Store>(rt: &HostRuntime, store: &mut S, name: &str) -> anyho
 }
 
 // A station's name filled up with blanks to seven bytes, where it has one to seven.
-pub fn filled(rt: &HostRuntime, station: &str) -> Result<Vec<u8>, AllocError> {
+pub fn filled(rt: &HostRuntime, station: &str) -> Result<Vec<u8>, AllocError>
+    ensures { IfOk result (λ name. name.items ≡ filled_up station.now) }
+{
     let mut name = station.as_bytes().to_vec(rt.alloc())?;
-    if !station.is_empty() {
-        for _ in station.len()..7 {
-            name.push(b' ')?;
-        }
+    if station.is_empty() {
+        return Ok(name);
+    }
+    while name.len() < 7 {
+        name.push(b' ')?;
     }
     Ok(name)
 }
@@ -96,7 +107,10 @@ fn print_line(rt: &HostRuntime, line: &Line) -> anyhow::Result<()> {
 }
 
 // How many lines a board shows, of so many at the most.
-pub fn shown_lines(shown: &mut Board, most: usize) -> u64 {
+pub fn shown_lines(shown: &mut Board, most: usize) -> u64
+    ensures value { result ≡ min most (length (items shown.old.lines.inner)) }
+    ensures same { shown.new ≡ shown.old }
+{
     let mut lines: u64 = 0;
     for place in 0..most {
         if shown.tell(place).is_none() {
@@ -121,14 +135,16 @@ fn print_lines(rt: &HostRuntime, shown: &mut Board, most: usize) -> anyhow::Resu
     Ok(())
 }
 
-// Turns a board to what is wanted and prints it, or why it cannot be turned.
+// Turns a board to what is wanted and prints it, or why it cannot be turned. The store stays as it was.
 pub fn print_board<S: Store>(
     rt: &HostRuntime,
     store: &mut S,
     slots: &mut [Line],
     wanted: Wanted,
     refused: u64,
-) -> anyhow::Result<()> {
+) -> anyhow::Result<()>
+    ensures { store.new ≡ store.old }
+{
     let Some((day, _)) = date(wanted.date.as_bytes()) else {
         return print_refused(rt, Refusal::NoSuchBoard);
     };
@@ -151,14 +167,16 @@ pub fn print_board<S: Store>(
     print_lines(rt, &mut shown, most)
 }
 
-// Turns a board to what is wanted so many times, and prints how many lines it has.
+// Turns a board to what is wanted so many times, and prints how many lines it has. The store stays as it was.
 pub fn print_turns<S: Store>(
     rt: &HostRuntime,
     store: &mut S,
     slots: &mut [Line],
     wanted: Wanted,
     times: u64,
-) -> anyhow::Result<()> {
+) -> anyhow::Result<()>
+    ensures { store.new ≡ store.old }
+{
     let Some((day, _)) = date(wanted.date.as_bytes()) else {
         return print_refused(rt, Refusal::NoSuchBoard);
     };

@@ -1,4 +1,7 @@
 // Schedules put together from their rows, without the rules of extracts.
+ghost use Rattle.std.specs.Prelude.{◌≡◌, true, false};
+ghost use Rattle.departures.specs.Drafts.{can_ask, is_terminus};
+
 use cif::content::{BasicSchedule, Change, Content, Location};
 use forms::letters::Stp;
 use schedule::key::Key;
@@ -47,8 +50,11 @@ impl Draft {
         }
     }
 
-    // Takes a row, and says what it asks.
-    pub fn take(&mut self, content: Content) -> Asked {
+    // Takes a row, and says what it asks. After an LT no schedule is being read.
+    pub fn take(&mut self, content: Content) -> Asked
+        ensures asks { can_ask content ≡ false → result ≡ Asked.Nothing }
+        ensures ended { is_terminus content ≡ true → self.new ≡ Draft.None }
+    {
         match content {
             Content::Schedule(basic) => {
                 let (draft, asked) = begin(&basic);

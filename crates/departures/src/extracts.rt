@@ -1,4 +1,6 @@
-// Extracts taken row by row.
+// Extracts taken row by row. Nothing here touches the store of a controller.
+ghost use Rattle.std.specs.Prelude.{◌≡◌};
+
 use crate::boards::{Wanted, filled, shown_lines};
 use crate::rows::Tally;
 use crate::words::{KeyWords, RecordWords, Text, meaning, stage_name};
@@ -15,7 +17,9 @@ use std::fs;
 use timetable::{Store, Timetable};
 
 // Hands a row to the controller: an HD row by open, any other by row.
-fn hand<S: Store>(controller: &mut Controller<S>, row: &[u8]) -> Result<(), ExtractFault> {
+fn hand<S: Store>(controller: &mut Controller<S>, row: &[u8]) -> Result<(), ExtractFault>
+    ensures { controller.new.overlay.store ≡ controller.old.overlay.store }
+{
     match row {
         [b'H', b'D', ..] => controller.open(row),
         _ => controller.row(row),
@@ -97,7 +101,9 @@ fn lines_shown<S: Store>(
     controller: &mut Controller<S>,
     lines: &mut [Line],
     wanted: Wanted,
-) -> anyhow::Result<Result<u64, Refusal>> {
+) -> anyhow::Result<Result<u64, Refusal>>
+    ensures { controller.new ≡ controller.old }
+{
     let Some((day, _)) = date(wanted.date.as_bytes()) else {
         return Ok(Err(Refusal::NoSuchBoard));
     };
@@ -115,7 +121,9 @@ fn print_shown<S: Store>(
     controller: &mut Controller<S>,
     lines: &mut [Line],
     wanted: Wanted,
-) -> anyhow::Result<()> {
+) -> anyhow::Result<()>
+    ensures { controller.new ≡ controller.old }
+{
     match lines_shown(rt, controller, lines, wanted)? {
         Ok(count) => {
             let station = wanted.station;
@@ -137,7 +145,9 @@ fn end_extract<S: Store>(
     controller: &mut Controller<S>,
     lines: &mut [Line],
     wanted: Wanted,
-) -> anyhow::Result<()> {
+) -> anyhow::Result<()>
+    ensures { controller.new.overlay.store ≡ controller.old.overlay.store }
+{
     print_pending(rt, controller)?;
     print_shown(rt, controller, lines, wanted)?;
     if controller.abandon().is_ok() {
@@ -153,7 +163,9 @@ fn take_row<S: Store>(
     tally: &mut Tally,
     number: u64,
     row: &[u8],
-) -> anyhow::Result<()> {
+) -> anyhow::Result<()>
+    ensures { controller.new.overlay.store ≡ controller.old.overlay.store }
+{
     match hand(controller, row) {
         Ok(()) => {
             tally.note_done();
@@ -174,7 +186,9 @@ pub fn take_file<S: Store>(
     lines: &mut [Line],
     wanted: Wanted,
     name: &str,
-) -> anyhow::Result<()> {
+) -> anyhow::Result<()>
+    ensures { controller.new.overlay.store ≡ controller.old.overlay.store }
+{
     let bytes = fs::read(rt, name)?;
     println!(rt; "file {name}")?;
     let mut rest = bytes.as_slice();
@@ -200,7 +214,9 @@ pub fn print_head<S: Store>(
     store: &mut S,
     kind: &str,
     refused: u64,
-) -> anyhow::Result<()> {
+) -> anyhow::Result<()>
+    ensures { store.new ≡ store.old }
+{
     let held = store.count();
     let capacity = store.capacity();
     println!(rt; "extract store {kind}: {held} of {capacity} schedules, refused {refused}")?;

@@ -1,4 +1,8 @@
 // The schedules of files put into both stores.
+ghost use Rattle.std.specs.Prelude.{◌≡◌, true};
+ghost use Rattle.ordered.specs.Tables.{room};
+ghost use Rattle.schedule.specs.Records.{is_schedule};
+
 use crate::drafts::{Asked, Draft};
 use crate::words::{KeyWords, RecordWords};
 use cif::content::Location;
@@ -15,8 +19,10 @@ use stores::bag::Bag;
 use stores::table::Table;
 use timetable::{Store, Timetable};
 
-// A record that no schedule has, for slots that hold nothing yet.
-pub fn empty_record() -> Record {
+// The record of a cancellation that hides nothing, for slots that hold nothing yet.
+pub fn empty_record() -> Record
+    ensures { is_schedule result ≡ true }
+{
     let filler = Location {
         tiploc: *b"       ",
         suffix: b' ',
@@ -48,24 +54,28 @@ fn told(table: bool, bag: bool, good: &'static str, bad: &'static str) -> &'stat
     }
 }
 
-fn put(table: &mut Table, bag: &mut Bag, schedule: Schedule) -> &'static str {
+fn put(table: &mut Table, bag: &mut Bag, schedule: Schedule) -> &'static str
+    ensures table { room table.new.rows.inner ≡ room table.old.rows.inner }
+    ensures bag { room bag.new.rows.inner ≡ room bag.old.rows.inner }
+{
     let first = table.put(schedule).is_ok();
     let second = bag.put(schedule).is_ok();
     told(first, second, "done", "refused, the store is full")
 }
 
-fn remove(table: &mut Table, bag: &mut Bag, key: Key) -> &'static str {
+fn remove(table: &mut Table, bag: &mut Bag, key: Key) -> &'static str
+    ensures table { room table.new.rows.inner ≡ room table.old.rows.inner }
+    ensures bag { room bag.new.rows.inner ≡ room bag.old.rows.inner }
+{
     let first = table.remove(key);
     let second = bag.remove(key);
     told(first, second, "yes", "no")
 }
 
-fn do_asked(
-    rt: &HostRuntime,
-    table: &mut Table,
-    bag: &mut Bag,
-    asked: Asked,
-) -> anyhow::Result<()> {
+fn do_asked(rt: &HostRuntime, table: &mut Table, bag: &mut Bag, asked: Asked) -> anyhow::Result<()>
+    ensures table { room table.new.rows.inner ≡ room table.old.rows.inner }
+    ensures bag { room bag.new.rows.inner ≡ room bag.old.rows.inner }
+{
     match asked {
         Asked::Put(schedule) => {
             let result = put(table, bag, schedule);
@@ -86,13 +96,16 @@ fn do_asked(
     Ok(())
 }
 
-// Does what the rows of a file ask.
+// Does what the rows of a file ask. Both capacities stay.
 pub fn take_file(
     rt: &HostRuntime,
     table: &mut Table,
     bag: &mut Bag,
     name: &str,
-) -> anyhow::Result<()> {
+) -> anyhow::Result<()>
+    ensures table { room table.new.rows.inner ≡ room table.old.rows.inner }
+    ensures bag { room bag.new.rows.inner ≡ room bag.old.rows.inner }
+{
     let bytes = fs::read(rt, name)?;
     let mut rest = bytes.as_slice();
     let mut draft = Draft::None;
@@ -108,7 +121,9 @@ pub fn take_file(
 }
 
 // The record of the least key not before a probe.
-fn least<S: Timetable>(store: &mut S, probe: Key) -> Option<Record> {
+fn least<S: Timetable>(store: &mut S, probe: Key) -> Option<Record>
+    ensures { store.new ≡ store.old }
+{
     let key = store.not_before(probe)?;
     let Some(mut place) = Schedule::from_record(empty_record()) else {
         return None;
@@ -146,7 +161,10 @@ fn same_record(a: &Record, b: &Record) -> bool {
 }
 
 // Prints what the table holds in key order, and says whether the bag holds the same.
-fn print_rows(rt: &HostRuntime, table: &mut Table, bag: &mut Bag) -> anyhow::Result<bool> {
+fn print_rows(rt: &HostRuntime, table: &mut Table, bag: &mut Bag) -> anyhow::Result<bool>
+    ensures table { table.new ≡ table.old }
+    ensures bag { bag.new ≡ bag.old }
+{
     let mut same = table.count() == bag.count();
     let mut probe = Key {
         uid: 0,
@@ -168,8 +186,11 @@ fn print_rows(rt: &HostRuntime, table: &mut Table, bag: &mut Bag) -> anyhow::Res
     Ok(same)
 }
 
-// Lists both stores.
-pub fn print_stores(rt: &HostRuntime, table: &mut Table, bag: &mut Bag) -> anyhow::Result<()> {
+// Lists both stores, which stay as they were.
+pub fn print_stores(rt: &HostRuntime, table: &mut Table, bag: &mut Bag) -> anyhow::Result<()>
+    ensures table { table.new ≡ table.old }
+    ensures bag { bag.new ≡ bag.old }
+{
     let held = table.count();
     let most = table.capacity();
     println!(rt; "table: {held} of {most}")?;

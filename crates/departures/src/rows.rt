@@ -1,4 +1,8 @@
 // Rows one by one: what each holds, or why it is turned away.
+ghost use Rattle.std.specs.Prelude.{◌≡◌, ℕ, ◌+◌, ◌<◌, ◌≢◌, min, slice_index};
+ghost use Rattle.cif.specs.Refusals.{number_of};
+ghost use Rattle.departures.specs.Tallies.{counted};
+
 use crate::words::{Text, Words, meaning};
 use cif::content::Content;
 use cif::reading::read;
@@ -32,27 +36,38 @@ pub struct Tally {
 }
 
 impl Tally {
-    pub fn new() -> Tally {
+    pub fn new() -> Tally
+        ensures done { result.done ≡ 0 }
+        ensures refused { (k : ℕ) → slice_index result.refused k ≡ 0 }
+    {
         Tally {
             done: 0,
             refused: [0; 16],
         }
     }
 
-    pub fn note_done(&mut self) {
+    pub fn note_done(&mut self)
+        ensures { self.new ≡ record self.old { done = counted (self.old.done + 1) } }
+    {
         self.done = self.done.saturating_add(1);
     }
 
-    pub fn note_refused(&mut self, refusal: Refusal) {
-        if let Some(count) = self.refused.get_mut(refusal.number() as usize) {
-            *count = count.saturating_add(1);
-        }
+    pub fn note_refused(&mut self, refusal: Refusal)
+        ensures done { self.new.done ≡ self.old.done }
+        ensures here { slice_index self.new.refused (number_of refusal) ≡ counted (slice_index self.old.refused (number_of refusal) + 1) }
+        ensures others { (k : ℕ) → k ≢ number_of refusal → slice_index self.new.refused k ≡ slice_index self.old.refused k }
+    {
+        let n = refusal.number() as usize;
+        self.refused[n] = self.refused[n].saturating_add(1);
     }
 
-    pub fn add(&mut self, other: &Tally) {
+    pub fn add(&mut self, other: &Tally)
+        ensures done { self.new.done ≡ counted (self.old.done + other.now.done) }
+        ensures refused { (k : ℕ) → k < 16 → slice_index self.new.refused k ≡ counted (slice_index self.old.refused k + slice_index other.now.refused k) }
+    {
         self.done = self.done.saturating_add(other.done);
-        for (count, more) in self.refused.iter_mut().zip(other.refused.iter()) {
-            *count = count.saturating_add(*more);
+        for (k, count) in self.refused.iter_mut().enumerate() {
+            *count = count.saturating_add(other.refused[k]);
         }
     }
 

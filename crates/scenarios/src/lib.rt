@@ -1,6 +1,11 @@
 // Examples of what stores and extracts do, run as tests.
 #![tactic(auto)]
 
+ghost use Rattle.std.specs.Prelude.{◌≡◌, false, MatchOption};
+ghost use Rattle.forms.specs.declared.letters.Stp.TheVariants.{Permanent};
+ghost use Rattle.schedule.specs.Records.{in_range, is_schedule};
+ghost use Rattle.scenarios.specs.Samples.{sample};
+
 use cif::content::Location;
 use forms::letters::Stp;
 use schedule::key::Key;
@@ -8,7 +13,9 @@ use schedule::record::Record;
 use schedule::schedule::Schedule;
 
 // A schedule's record with no calls.
-pub fn record(uid: u32, from: u16, stp: Stp, to: u16) -> Record {
+pub fn record(uid: u32, from: u16, stp: Stp, to: u16) -> Record
+    ensures { result ≡ sample (record { uid = uid; from = from; stp = stp }) to }
+{
     let filler = Location {
         tiploc: *b"       ",
         suffix: b' ',
@@ -29,12 +36,16 @@ pub fn record(uid: u32, from: u16, stp: Stp, to: u16) -> Record {
 }
 
 // A permanent schedule of a train that runs on one day.
-pub fn one_day(uid: u32, day: u16) -> Option<Schedule> {
+pub fn one_day(uid: u32, day: u16) -> Option<Schedule>
+    ensures { let r = sample (record { uid = uid; from = day; stp = Permanent }) day in MatchOption result (is_schedule r ≡ false) (λ s. s.plain ≡ r) }
+{
     Schedule::from_record(record(uid, day, Stp::Permanent, day))
 }
 
 // A permanent schedule of a train that runs every day of a time, if it is one.
-pub fn permanent(uid: u32, from: u16, to: u16) -> Option<Schedule> {
+pub fn permanent(uid: u32, from: u16, to: u16) -> Option<Schedule>
+    ensures { let r = sample (record { uid = uid; from = from; stp = Permanent }) to in MatchOption result (in_range r ≡ false) (λ s. s.plain ≡ r) }
+{
     let stp = Stp::Permanent;
     Schedule::begun(Key { uid, from, stp }, to, [true; 7], *b"1A23")
 }

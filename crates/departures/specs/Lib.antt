@@ -1,0 +1,3 @@
+pub mod Stations
+pub mod Drafts
+pub mod Tallies
