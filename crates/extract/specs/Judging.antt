@@ -47,8 +47,8 @@ suits Full last = is_blank_reference last
 
 -- the last reference is not the one in force, or equals the current one, or is blank with U or not blank with F
 abbrev pub mismatches : List ℕ → Heading → Bool
-mismatches inForce h =
-    not (bytes_eq h.last inForce) || (bytes_eq h.last h.current || not (suits h.coverage h.last))
+mismatches in_force h =
+    not (bytes_eq h.last in_force) || (bytes_eq h.last h.current || not (suits h.coverage h.last))
 
 -- an HD whose references do not fit
 abbrev pub references_fail : Standing → Content → Bool

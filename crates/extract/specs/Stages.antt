@@ -41,9 +41,9 @@ Step = (Stage × Identity × Stage)
 
 -- the table; the stage after a BS is between where it deletes or cancels, and begun otherwise
 abbrev pub steps : Stage → List Step
-steps afterSchedule =
+steps after_schedule =
     (Idle, Header, Between)
-    ∷ (Between, BasicSchedule, afterSchedule)
+    ∷ (Between, BasicSchedule, after_schedule)
     ∷ (Between, LocationInsert, Between)
     ∷ (Between, LocationAmend, Between)
     ∷ (Between, LocationDelete, Between)

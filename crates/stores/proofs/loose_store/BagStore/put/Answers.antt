@@ -8,7 +8,7 @@ use Rattle.stores.proofs.loose_store.BagStore.put.Goals as goal
 pub invariant_of-self : goal.invariant_of-self
 invariant_of-self c =
     let kept = c.put.ensures.kept (c.args.self.now.fits, c.args.self.now.apart) in
-    let same-slots = c.put.ensures.rest.slots in
+    let same_slots = c.put.ensures.rest.slots in
     let small = c.args.self.now.small in
     record {
       fits = kept.0;
