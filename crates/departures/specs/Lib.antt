@@ -1,3 +1,4 @@
 pub mod Stations
 pub mod Drafts
 pub mod Tallies
+pub mod Handing

@@ -1,5 +1,9 @@
 // Extracts taken row by row. Nothing here touches the store of a controller.
-ghost use Rattle.std.specs.Prelude.{◌≡◌};
+ghost use Rattle.std.specs.Prelude.{◌≡◌, false, is_ok};
+ghost use Rattle.cif.specs.Refusals.{fault_of};
+ghost use Rattle.controller.specs.Calls.{refusal_of};
+ghost use Rattle.controller.specs.Shown.{standing_in};
+ghost use Rattle.departures.specs.Handing.{handed};
 
 use crate::boards::{Wanted, filled, shown_lines};
 use crate::rows::Tally;
@@ -18,7 +22,9 @@ use timetable::{Store, Timetable};
 
 // Hands a row to the controller: an HD row by open, any other by row.
 fn hand<S: Store>(controller: &mut Controller<S>, row: &[u8]) -> Result<(), ExtractFault>
-    ensures { controller.new.overlay.store ≡ controller.old.overlay.store }
+    ensures told { fault_of result ≡ refusal_of (handed row.now) (standing_in S.Timetable.map S.Timetable.capacity controller.old) 0 }
+    ensures unchanged { is_ok result ≡ false → controller.new ≡ controller.old }
+    ensures store { controller.new.overlay.store ≡ controller.old.overlay.store }
 {
     match row {
         [b'H', b'D', ..] => controller.open(row),
