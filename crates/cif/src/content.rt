@@ -3,7 +3,7 @@ use crate::identity::Identity;
 use forms::letters::{Coverage, Stp};
 
 // HD: the references of an extract, and how much it covers.
-#[derive(Clone, Copy)]
+#[derive(Clone, Copy, Debug, PartialEq, Eq)]
 pub struct Header {
     pub current: [u8; 7],
     pub last: [u8; 7],
@@ -11,7 +11,7 @@ pub struct Header {
 }
 
 // BS: which schedule it is about, and what is done with it. The first day is told with its weekday.
-#[derive(Clone, Copy)]
+#[derive(Clone, Copy, Debug, PartialEq, Eq)]
 pub struct BasicSchedule {
     pub uid: u32,
     pub from: (u16, u8),
@@ -19,7 +19,7 @@ pub struct BasicSchedule {
     pub change: Change,
 }
 
-#[derive(Clone, Copy)]
+#[derive(Clone, Copy, Debug, PartialEq, Eq)]
 pub enum Change {
     New(Running),
     Revise(Running),
@@ -27,7 +27,7 @@ pub enum Change {
 }
 
 // Until which day and on which days of the week a train runs, and under which identity.
-#[derive(Clone, Copy)]
+#[derive(Clone, Copy, Debug, PartialEq, Eq)]
 pub struct Running {
     pub to: (u16, u8),
     pub days: [bool; 7],
@@ -35,7 +35,7 @@ pub struct Running {
 }
 
 // LO, LI and LT: where a train calls, and when. An origin has no arrival, a terminus no departure.
-#[derive(Clone, Copy)]
+#[derive(Clone, Copy, Debug, PartialEq, Eq)]
 pub struct Location {
     pub tiploc: [u8; 7],
     pub suffix: u8,
@@ -45,7 +45,7 @@ pub struct Location {
 }
 
 // A row that was read.
-#[derive(Clone, Copy)]
+#[derive(Clone, Copy, Debug, PartialEq, Eq)]
 pub enum Content {
     Header(Header),
     Schedule(BasicSchedule),

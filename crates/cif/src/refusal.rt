@@ -3,7 +3,7 @@ ghost use Rattle.std.specs.Prelude.{◌≡◌};
 ghost use Rattle.cif.specs.Refusals.{number_of, fault_at, in_row, raised};
 
 // What is refused, by its number.
-#[derive(Clone, Copy)]
+#[derive(Clone, Copy, Debug, PartialEq, Eq)]
 pub enum Refusal {
     RowLength = 1,
     BadByte = 2,
@@ -41,14 +41,14 @@ impl Refusal {
 }
 
 // A refusal and the column that it is about, or 0.
-#[derive(Clone, Copy)]
+#[derive(Clone, Copy, Debug, PartialEq, Eq)]
 pub struct ColumnFault {
     pub refusal: Refusal,
     pub column: u8,
 }
 
 // A column fault and the identity of its row, or blanks.
-#[derive(Clone, Copy)]
+#[derive(Clone, Copy, Debug, PartialEq, Eq)]
 pub struct RowFault {
     pub fault: ColumnFault,
     pub identity: [u8; 2],

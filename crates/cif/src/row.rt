@@ -6,7 +6,7 @@ ghost use Rattle.cif.specs.Rows.{first_bad};
 use crate::identity::Identity;
 
 // 80 printable bytes, and their identity.
-#[derive(Clone, Copy)]
+#[derive(Clone, Copy, Debug, PartialEq, Eq)]
 pub struct Row {
     pub(crate) bytes: [u8; 80],
     pub(crate) identity: Identity,

@@ -2,7 +2,7 @@
 use cif::refusal::RowFault;
 
 // A row fault and the number of the row, or 0.
-#[derive(Clone, Copy)]
+#[derive(Clone, Copy, Debug, PartialEq, Eq)]
 pub struct ExtractFault {
     pub fault: RowFault,
     pub row: u16,

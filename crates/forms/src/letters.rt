@@ -3,7 +3,7 @@ ghost use Rattle.std.specs.Prelude.{◌≡◌};
 ghost use Rattle.forms.specs.Letters.{stp_letter, transaction_letter, coverage_letter, stp_in, transaction_in, coverage_in};
 
 // What kind of schedule it is, by its STP letter.
-#[derive(Clone, Copy)]
+#[derive(Clone, Copy, Debug, PartialEq, Eq, PartialOrd, Ord)]
 pub enum Stp {
     Cancellation = b'C' as isize,
     ShortTerm = b'N' as isize,
@@ -32,7 +32,7 @@ impl Stp {
 }
 
 // What is done with a schedule.
-#[derive(Clone, Copy)]
+#[derive(Clone, Copy, Debug, PartialEq, Eq)]
 pub enum Transaction {
     New = b'N' as isize,
     Revise = b'R' as isize,
@@ -59,7 +59,7 @@ impl Transaction {
 }
 
 // How much an extract covers.
-#[derive(Clone, Copy)]
+#[derive(Clone, Copy, Debug, PartialEq, Eq)]
 pub enum Coverage {
     Full = b'F' as isize,
     Update = b'U' as isize,

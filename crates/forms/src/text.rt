@@ -4,7 +4,7 @@ ghost use Rattle.forms.specs.Bytes.{allows, every};
 ghost use Rattle.forms.specs.Forms.{text_in, days_run_in, reference_in, last_reference_in};
 
 // The bytes that a text may have.
-#[derive(Clone, Copy)]
+#[derive(Clone, Copy, Debug, PartialEq, Eq)]
 pub enum Alphabet {
     Letters,
     Digits,

@@ -11,7 +11,7 @@ use crate::shift::{insert_at, remove_at, replace_at};
 use crate::slots::Slots;
 
 // There is no room for one element more.
-#[derive(Clone, Copy)]
+#[derive(Clone, Copy, Debug, PartialEq, Eq)]
 pub struct Full;
 
 impl<E> Ordered<'_, E> {

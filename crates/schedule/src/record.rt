@@ -7,7 +7,7 @@ pub const CALLS: usize = 48;
 
 // The plain record of a schedule. The first `count` calls are its kept calls; the others are filled alike, so that equal
 // schedules are equal records.
-#[derive(Clone, Copy)]
+#[derive(Clone, Copy, Debug, PartialEq, Eq)]
 pub struct Record {
     pub key: Key,
     pub to: u16,

@@ -8,7 +8,7 @@ use cif::content::Location;
 use forms::letters::Stp;
 
 // A schedule has the properties of every schedule that exists. It is passed by value or written whole, and never lies in a slot.
-#[derive(Clone, Copy)]
+#[derive(Clone, Copy, Debug, PartialEq, Eq)]
 pub struct Schedule {
     pub(crate) plain: Record,
     ghost valid: { is_schedule plain ≡ true },

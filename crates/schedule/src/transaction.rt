@@ -7,7 +7,7 @@ use crate::record::Record;
 use crate::schedule::Schedule;
 
 // A transaction: a schedule that is new, one that takes another's place, or the key of one to delete.
-#[derive(Clone, Copy)]
+#[derive(Clone, Copy, Debug, PartialEq, Eq)]
 pub enum Transaction {
     New(Schedule),
     Revise(Schedule),
@@ -29,7 +29,7 @@ impl Transaction {
 }
 
 // A transaction as it lies in memory, with the plain record of its schedule.
-#[derive(Clone, Copy)]
+#[derive(Clone, Copy, Debug, PartialEq, Eq)]
 pub enum Change {
     New(Record),
     Revise(Record),
