@@ -7,7 +7,8 @@ use Rattle.schedule.specs.declared.transaction.Change.{Change}
 use Rattle.schedule.specs.Transactions.{changed_key, is_lawful, every_lawful}
 use Rattle.timetable.specs.Timetables.{schedule_of, IsMap}
 use Rattle.overlay.specs.Overlays.{done_all, leaves}
-use Rattle.overlay.proofs.Dones.{all_map, done_push, done_count}
+use Rattle.overlay.proofs.Dones.{done_push, done_count}
+use Rattle.overlay.specs.Maps.{all_map}
 use Rattle.overlay.proofs.Lasts.{no_change}
 
 pub lawful_take : (n : ℕ) (cs : List Change) → every_lawful cs ≡ true → every_lawful (take n cs) ≡ true

@@ -3,7 +3,7 @@ use Rattle.std.proofs.Common.{◌≡◌, ◌+◌, ◌-◌, Bool, true, false, co
 use Rattle.std.proofs.lemmas.List.Sums.{fold_push}
 use Rattle.std.proofs.lemmas.Bool.{and_parts, true≢false}
 use Rattle.maps.specs.Orders.{same}
-use Rattle.maps.proofs.Maps.{lookup_including, lookup_excluding, ascending_including, ascending_excluding, excluding_absent}
+use Rattle.maps.proofs.Maps.{lookup_including, lookup_excluding, excluding_absent}
 use Rattle.maps.proofs.Heaped.{length_including}
 use Rattle.maps.proofs.Lengths.{length_again, length_without}
 use Rattle.schedule.specs.declared.key.Key.{Key}
@@ -14,21 +14,9 @@ use Rattle.schedule.specs.Keys.{key_before}
 use Rattle.schedule.specs.Records.{key_of}
 use Rattle.schedule.specs.Transactions.{changed_key, is_lawful, every_lawful}
 use Rattle.timetable.specs.Timetables.{schedule_of, with_schedule, without_key, IsMap}
-use Rattle.timetable.proofs.Valid.{key_lawful, valid_with, valid_without}
+use Rattle.timetable.proofs.Valid.{key_lawful}
 use Rattle.overlay.specs.Overlays.{done_to, done_all, leaves, last_from, last_on}
-
-set_map : (m : List Record) (r : Record) → IsMap m → is_lawful (New r) ≡ true → IsMap (with_schedule m r)
-set_map m r is h = record { rising = ascending_including key_before key_of key_lawful m r is.rising; schedules = valid_with m r is.schedules h }
-
--- a map stays a map
-pub done_map : (m : List Record) (c : Change) → IsMap m → is_lawful c ≡ true → IsMap (done_to m c)
-done_map m (New r) is h = set_map m r is h
-done_map m (Revise r) is h = set_map m r is h
-done_map m (Delete k) is h = record { rising = ascending_excluding key_before key_of key_lawful m k is.rising; schedules = valid_without m k is.schedules }
-
-pub all_map : (m : List Record) (cs : List Change) → IsMap m → every_lawful cs ≡ true → IsMap (done_all m cs)
-all_map m [] is h = is
-all_map m (c ∷ cs) is h = let p = and_parts (is_lawful c) (every_lawful cs) h in all_map (done_to m c) cs (done_map m c is p.0) p.1
+use Rattle.overlay.specs.Maps.{done_map}
 
 -- a transaction decides what is under its key, and no other
 pub done_look : (m : List Record) (c : Change) (k : Key) → IsMap m → schedule_of (done_to m c) k ≡ cond (same key_before (changed_key c) k) (leaves c) (schedule_of m k)

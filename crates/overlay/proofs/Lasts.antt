@@ -1,14 +1,15 @@
 -- The last transaction on a key, and what it leaves there.
-use Rattle.std.proofs.Common.{◌≡◌, ℕ, ◌+◌, ◌<◌, Bool, cond, List, [], length, get_or, drop, Some, Option, sym, ap, ◌∙◌}
-use Rattle.std.proofs.lemmas.List.{at_drop_more}
+use Rattle.std.proofs.Common.{◌≡◌, Bool, true, false, cond, List, [], ◌∷◌, Some, None, Option, sym, refl, ap, ◌∙◌}
+use mathlib.Core.List.{reverse}
+use Rattle.std.specs.List.{find}
+use Rattle.std.specs.Option.{option_or}
+use Rattle.std.proofs.lemmas.List.{reverse-append}
+use Rattle.std.proofs.lemmas.List.Folds.{find-append}
 use Rattle.forms.specs.declared.letters.Stp.TheVariants.{Cancellation}
-use Rattle.maps.specs.Orders.{same}
 use Rattle.schedule.specs.declared.key.Key.{Key}
 use Rattle.schedule.specs.declared.transaction.Change.{Change}
 use Rattle.schedule.specs.declared.transaction.Change.TheVariants.{New}
-use Rattle.schedule.specs.Keys.{key_before}
-use Rattle.schedule.specs.Transactions.{changed_key}
-use Rattle.overlay.specs.Overlays.{last_from, last_on}
+use Rattle.overlay.specs.Overlays.{is_on, last_from, last_on}
 
 -- what a read past the end would give
 abbrev pub no_change : Change
@@ -24,7 +25,22 @@ no_change =
       count = 0;
     })
 
--- one turn of a loop that looks for the last
-pub last_more : (k : Key) (cs : List Change) (i : ℕ) (old new : Option Change) (b : Bool) → i < length cs → b ≡ same key_before (changed_key (get_or cs i no_change)) k → new ≡ cond b (Some (get_or cs i no_change)) old → last_from k old (drop i cs) ≡ last_on k cs → last_from k new (drop (i + 1) cs) ≡ last_on k cs
-last_more k cs i old new b l h e inv =
-    ap (λ v. last_from k v (drop (i + 1) cs)) (e ∙ ap (λ (t : Bool). cond t (Some (get_or cs i no_change)) old) h) ∙ sym (at_drop_more (last_from k old) cs i no_change l) ∙ inv
+either : (x : Option Change) (b : Bool) (c : Change) (o : Option Change) → option_or x (cond b (Some c) o) ≡ option_or (option_or x (cond b (Some c) None)) o
+either (Some d) b c o = refl
+either None true c o = refl
+either None false c o = refl
+
+from_end : (k : Key) (o : Option Change) (cs : List Change) → last_from k o cs ≡ option_or (find (is_on k) (reverse cs)) o
+from_end k o [] = refl
+from_end k o (c ∷ cs) =
+    from_end k (cond (is_on k c) (Some c) o) cs
+    ∙ either (find (is_on k) (reverse cs)) (is_on k c) c o
+    ∙ ap (λ (x : Option Change). option_or x o) (sym (ap (find (is_on k)) (reverse-append (c ∷ []) cs) ∙ find-append (is_on k) (reverse cs) (c ∷ [])))
+
+-- the last on a key is the first from the end
+pub last_is : (k : Key) (cs : List Change) → find (is_on k) (reverse cs) ≡ last_on k cs
+last_is k cs = sym (from_end k None cs ∙ whole (find (is_on k) (reverse cs)))
+  where
+    whole : (x : Option Change) → option_or x None ≡ x
+    whole (Some c) = refl
+    whole None = refl

@@ -19,7 +19,8 @@ use Rattle.timetable.proofs.Valid.{key_lawful}
 use Rattle.overlay.specs.Overlays.{done_all, last_from, last_on}
 use Rattle.overlay.specs.Leasts.{is_touched, is_untouched, leaves_one, is_set, is_lower, takes_place}
 use Rattle.overlay.proofs.Lasts.{no_change}
-use Rattle.overlay.proofs.Dones.{after_last, all_map, all_look}
+use Rattle.overlay.proofs.Dones.{after_last, all_look}
+use Rattle.overlay.specs.Maps.{all_map}
 
 -- a walk from a probe has passed no key that the transactions leave alone
 pub record Walked (m : List Record) (cs : List Change) (probe from : Key) : Type 0 where

@@ -13,7 +13,8 @@ use Rattle.timetable.proofs.Keys.{decide}
 use Rattle.timetable.proofs.Valid.{key_lawful}
 use Rattle.overlay.specs.Overlays.{last_from, last_on}
 use Rattle.overlay.specs.Laws.{of_train, TrainsDecide, UnnamedKeep}
-use Rattle.overlay.proofs.Dones.{after_last, all_map, all_look}
+use Rattle.overlay.proofs.Dones.{after_last, all_look}
+use Rattle.overlay.specs.Maps.{all_map}
 
 -- a key of another train is another key
 other_train : (c k : Key) → eqb c.uid k.uid ≡ false → same key_before c k ≡ false

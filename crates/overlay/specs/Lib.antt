@@ -1,3 +1,4 @@
 pub mod Overlays
 pub mod Leasts
 pub mod Laws
+pub mod Maps

@@ -1,5 +1,5 @@
 -- The overlay: a map with pending transactions done to it in order.
-use Rattle.std.specs.Prelude.{ℕ, cond, max, List, [], ◌∷◌, length, take, Some, None, fold, Option}
+use Rattle.std.specs.Prelude.{ℕ, Bool, cond, max, List, [], ◌∷◌, length, take, Some, None, fold, Option}
 use Rattle.maps.specs.Orders.{same}
 use Rattle.schedule.specs.declared.key.Key.{Key}
 use Rattle.schedule.specs.declared.record.Record.{Record}
@@ -35,10 +35,14 @@ leaves (New plain) = Some plain
 leaves (Revise plain) = Some plain
 leaves (Delete key) = None
 
+-- whether a transaction is on a key
+abbrev pub is_on : Key → Change → Bool
+is_on k c = same key_before (changed_key c) k
+
 -- the last of some transactions on a key, or what it was before them
 abbrev pub last_from : Key → Option Change → List Change → Option Change
 last_from k o [] = o
-last_from k o (c ∷ cs) = last_from k (cond (same key_before (changed_key c) k) (Some c) o) cs
+last_from k o (c ∷ cs) = last_from k (cond (is_on k c) (Some c) o) cs
 
 abbrev pub last_on : Key → List Change → Option Change
 last_on k cs = last_from k None cs

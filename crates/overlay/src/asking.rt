@@ -1,6 +1,6 @@
 // What a row asks of the overlay.
 ghost use Rattle.std.specs.Prelude.{◌≡◌, [], length, is_some, ◌==◌};
-ghost use Rattle.timetable.specs.Timetables.{schedule_of, IsMap};
+ghost use Rattle.timetable.specs.Timetables.{schedule_of};
 ghost use Rattle.overlay.specs.Overlays.{pending_in, overlay_of};
 
 use crate::overlay::Overlay;
@@ -24,7 +24,6 @@ impl<S: Store> Overlay<S> {
     // Whether a key is in the overlay.
     pub fn holds(&mut self, key: Key) -> bool
         ensures value { result ≡ is_some (schedule_of (overlay_of S.Timetable.map self.old) key) }
-        ensures is_map { IsMap (S.Timetable.map self.old.store) }
         ensures same { self.new ≡ self.old }
     {
         has_after(&mut self.store, self.pending.as_slice(), key)
@@ -33,7 +32,6 @@ impl<S: Store> Overlay<S> {
     // Whether the overlay has as many keys as the store has room for.
     pub fn is_full(&mut self) -> bool
         ensures value { result ≡ (length (overlay_of S.Timetable.map self.old) == S.Timetable.capacity self.old.store) }
-        ensures is_map { IsMap (S.Timetable.map self.old.store) }
         ensures same { self.new ≡ self.old }
     {
         count_after(&mut self.store, self.pending.as_slice()) == self.store.capacity()

@@ -1,7 +1,6 @@
 // The least key after some transactions.
 ghost use Rattle.std.specs.Prelude.{◌≡◌, Bool, ◌||◌};
 ghost use Rattle.schedule.specs.declared.key.Key.{Key};
-ghost use Rattle.timetable.specs.Timetables.{IsMap};
 ghost use Rattle.timetable.specs.Laws.{LeastOf};
 ghost use Rattle.overlay.specs.Leasts.{is_untouched, is_set, is_lower, takes_place};
 
@@ -20,7 +19,6 @@ pub(crate) fn first_untouched<T: Timetable>(
     probe: Key,
 ) -> Option<Key>
     ensures least { LeastOf (is_untouched (T.Timetable.map timetable.old) changes.now) probe result }
-    ensures is_map { IsMap (T.Timetable.map timetable.old) }
     ensures same { timetable.new ≡ timetable.old }
 {
     let mut from = probe;
@@ -37,20 +35,14 @@ pub(crate) fn first_untouched<T: Timetable>(
 fn is_set(changes: &[Change], key: Key) -> bool
     ensures { result ≡ is_set changes.now key }
 {
-    match last_on(changes, key) {
-        Some(change) => sets(&change),
-        None => false,
-    }
+    last_on(changes, key).is_some_and(|change| sets(&change))
 }
 
 // Whether a key is before the best so far, if there is one.
 fn is_lower(key: Key, best: Option<Key>) -> bool
     ensures { result ≡ is_lower key best }
 {
-    match best {
-        Some(best) => key.is_before(&best),
-        None => true,
-    }
+    best.is_none_or(|best| key.is_before(&best))
 }
 
 // Whether a key that the transactions set is not before the probe, and before the best so far.

@@ -2,7 +2,7 @@
 ghost use Rattle.std.specs.Prelude.{◌≡◌, ◌≤◌, Bool, true, false, length, is_some, Some, None, MatchOption};
 ghost use Rattle.std.specs.Option.{unwrap_or};
 ghost use Rattle.schedule.specs.Transactions.{is_lawful, every_lawful};
-ghost use Rattle.timetable.specs.Timetables.{schedule_of, IsMap};
+ghost use Rattle.timetable.specs.Timetables.{schedule_of};
 ghost use Rattle.overlay.specs.Overlays.{done_all, leaves};
 
 use crate::last::last_on;
@@ -15,10 +15,7 @@ use timetable::{Store, Timetable};
 pub(crate) fn sets(change: &Change) -> bool
     ensures { result ≡ is_some (leaves change.now) }
 {
-    match change {
-        Change::New(_) | Change::Revise(_) => true,
-        Change::Delete(_) => false,
-    }
+    !matches!(change, Change::Delete(_))
 }
 
 // The schedule that a transaction leaves under its key.
@@ -27,37 +24,20 @@ fn schedule_left(change: &Change) -> Option<Schedule>
     ensures { MatchOption result (leaves change.now ≡ None) (λ s. leaves change.now ≡ Some s.plain) }
 {
     match change {
-        Change::New(plain) => Schedule::from_record(*plain),
-        Change::Revise(plain) => Schedule::from_record(*plain),
+        Change::New(plain) | Change::Revise(plain) => Schedule::from_record(*plain),
         Change::Delete(_) => None,
     }
-}
-
-// Whether a key is there. Its schedule is copied to `place`, which is left as it was where the key is absent. That the timetable
-// means a map is what its count tells.
-fn find_in<T: Timetable>(timetable: &mut T, key: Key, place: &mut Schedule) -> bool
-    ensures found { result ≡ is_some (schedule_of (T.Timetable.map timetable.old) key) }
-    ensures copied { place.new.plain ≡ unwrap_or (schedule_of (T.Timetable.map timetable.old) key) place.old.plain }
-    ensures left { result ≡ false → place.new ≡ place.old }
-    ensures is_map { IsMap (T.Timetable.map timetable.old) }
-    ensures same { timetable.new ≡ timetable.old }
-{
-    let _ = timetable.count();
-    timetable.find(key, place)
 }
 
 // Whether a key is there after some transactions.
 pub(crate) fn has_after<T: Timetable>(timetable: &mut T, changes: &[Change], key: Key) -> bool
     requires lawful { every_lawful changes.now ≡ true }
     ensures value { result ≡ is_some (schedule_of (done_all (T.Timetable.map timetable.old) changes.now) key) }
-    ensures is_map { IsMap (T.Timetable.map timetable.old) }
     ensures same { timetable.new ≡ timetable.old }
 {
-    let mut place = Schedule::blank();
-    let there = find_in(timetable, key, &mut place);
     match last_on(changes, key) {
         Some(change) => sets(&change),
-        None => there,
+        None => timetable.find(key, &mut Schedule::blank()),
     }
 }
 
@@ -72,11 +52,8 @@ pub(crate) fn find_after<T: Timetable>(
     ensures found { result ≡ is_some (schedule_of (done_all (T.Timetable.map timetable.old) changes.now) key) }
     ensures copied { place.new.plain ≡ unwrap_or (schedule_of (done_all (T.Timetable.map timetable.old) changes.now) key) place.old.plain }
     ensures left { result ≡ false → place.new ≡ place.old }
-    ensures is_map { IsMap (T.Timetable.map timetable.old) }
     ensures same { timetable.new ≡ timetable.old }
 {
-    let mut here = *place;
-    let there = find_in(timetable, key, &mut here);
     match last_on(changes, key) {
         Some(change) => match schedule_left(&change) {
             Some(schedule) => {
@@ -85,10 +62,7 @@ pub(crate) fn find_after<T: Timetable>(
             }
             None => false,
         },
-        None => {
-            *place = here;
-            there
-        }
+        None => timetable.find(key, place),
     }
 }
 
@@ -97,14 +71,13 @@ pub(crate) fn count_after<S: Store>(store: &mut S, changes: &[Change]) -> usize
     requires lawful { every_lawful changes.now ≡ true }
     requires few { length changes.now ≤ 32 }
     ensures value { result ≡ length (done_all (S.Timetable.map store.old) changes.now) }
-    ensures is_map { IsMap (S.Timetable.map store.old) }
     ensures same { store.new ≡ store.old }
 {
     // a store's count is never above its capacity
     let mut count = store.count().min(store.capacity());
-    for i in 0..changes.len() {
-        let before = has_after(store, &changes[..i], changes[i].key());
-        if sets(&changes[i]) {
+    for (i, change) in changes.iter().enumerate() {
+        let before = has_after(store, &changes[..i], change.key());
+        if sets(change) {
             if !before {
                 count += 1;
             }

@@ -1,19 +1,13 @@
-use Rattle.std.proofs.Common.{true, false, sym, ap, ◌∙◌}
-use Rattle.std.proofs.lemmas.List.{at_drop_all}
-use Rattle.maps.specs.Orders.{same}
-use Rattle.schedule.specs.Keys.{key_before}
-use Rattle.overlay.specs.Overlays.{last_from}
-use Rattle.overlay.proofs.Lasts.{last_more}
+use Rattle.std.proofs.Common.{rules, ◌∙◌}
+use borrow.Author.Tests.{tests}
+use Rattle.std.proofs.lemmas.Iterator.Search.{find_from_yields_List}
+use Rattle.std.proofs.lemmas.Iterator.Adapters.{YieldsList-from_rev_slice}
+use Rattle.overlay.specs.Overlays.{is_on}
+use Rattle.overlay.proofs.Lasts.{last_is}
 use Rattle.overlay.proofs.last.last_on.Goals as goal
-use Rattle.overlay.proofs.last.last_on.Goals.{then-is_same, else-is_same}
-
-pub loop-change-preserved : goal.loop-change-preserved
-loop-change-preserved c =
-    let key = ap (λ k. same key_before k c.args.key) c.key.ensures in
-    elim c.if-is_same.branch [
-      | then-is_same w ↦ last_more c.args.key c.args.changes.now c.loop-change.change-index c.loop-change.last c.if-is_same.last true c.loop-change-test.true (w.if-is_same.ensures ∙ key) w.last-is c.loop-change.invariant
-      | else-is_same w ↦ last_more c.args.key c.args.changes.now c.loop-change.change-index c.loop-change.last c.if-is_same.last false c.loop-change-test.true (w.if-is_same.ensures ∙ key) w.last-is c.loop-change.invariant
-    ]
 
 pub returns : goal.returns
-returns c = sym (at_drop_all (last_from c.args.key c.loop-change.last) c.args.changes.now c.loop-change.change-index c.loop-change-test.false) ∙ c.loop-change.invariant
+returns c =
+    c.copied.ensures
+    ∙ find_from_yields_List (is_on c.args.key) _ _ c.find.result c.find.ensures.ran (YieldsList-from_rev_slice c.args.changes.now (search rules)) (λ x b q k. search (rules, tests))
+    ∙ last_is c.args.key c.args.changes.now

@@ -11,7 +11,7 @@ loop-key-init g c = (begin _ _ _, refl)
 pub loop-key-smaller : goal.loop-key-smaller
 loop-key-smaller g c =
     let m = g.T.Timetable.map c.loop-key.timetable in
-    let is = c.in-Some.ensures.is_map in
+    let is = (g.met.T.Timetable.is_map c.loop-key.timetable) in
     let n = next m c.loop-key.from c.in-Some.key is (sym c.in-Some.ensures.value) in
     subst (λ (x : List Record). left x c.next_in_train-from.result < left m c.loop-key.from)
     (sym (ap g.T.Timetable.map c.in-Some.ensures.same))
@@ -21,7 +21,7 @@ pub loop-key-preserved : goal.loop-key-preserved
 loop-key-preserved g c =
     let m = g.T.Timetable.map c.args.timetable.now in
     let same_map : g.T.Timetable.map c.loop-key.timetable ≡ m = ap g.T.Timetable.map c.loop-key.invariant.1 in
-    let is : IsMap m = subst (λ (x : List Record). IsMap x) same_map c.in-Some.ensures.is_map in
+    let is : IsMap m = subst (λ (x : List Record). IsMap x) same_map (g.met.T.Timetable.is_map c.loop-key.timetable) in
     let n = next m c.loop-key.from c.in-Some.key is (sym (c.in-Some.ensures.value ∙ ap (λ (x : List Record). not_before x c.loop-key.from) same_map)) in (
       walk_more m c.args.changes.now c.args.probe c.loop-key.from c.loop-key.invariant.0 c.in-Some.key n c.next_in_train-from.result
           (sym (ap is_some c.last_on.ensures) ∙ c.if-is_none.ensures)
@@ -34,11 +34,10 @@ pub returns-then-is_none : goal.returns-then-is_none
 returns-then-is_none g c =
     let m = g.T.Timetable.map c.args.timetable.now in
     let same_map : g.T.Timetable.map c.loop-key.timetable ≡ m = ap g.T.Timetable.map c.loop-key.invariant.1 in
-    let is : IsMap m = subst (λ (x : List Record). IsMap x) same_map c.in-Some.ensures.is_map in
+    let is : IsMap m = subst (λ (x : List Record). IsMap x) same_map (g.met.T.Timetable.is_map c.loop-key.timetable) in
     let n = next m c.loop-key.from c.in-Some.key is (sym (c.in-Some.ensures.value ∙ ap (λ (x : List Record). not_before x c.loop-key.from) same_map)) in
     record {
       least = walk_found m c.args.changes.now c.args.probe c.loop-key.from c.loop-key.invariant.0 c.in-Some.key n (sym (ap is_some c.last_on.ensures) ∙ c.if-is_none.ensures);
-      is_map = is;
       same = c.in-Some.ensures.same ∙ c.loop-key.invariant.1;
     }
 
@@ -46,9 +45,8 @@ pub returns : goal.returns
 returns g c =
     let m = g.T.Timetable.map c.args.timetable.now in
     let same_map : g.T.Timetable.map c.loop-key.timetable ≡ m = ap g.T.Timetable.map c.loop-key.invariant.1 in
-    let is : IsMap m = subst (λ (x : List Record). IsMap x) same_map c.in_default.ensures.is_map in
+    let is : IsMap m = subst (λ (x : List Record). IsMap x) same_map (g.met.T.Timetable.is_map c.loop-key.timetable) in
     record {
       least = walk_ended m c.args.changes.now c.args.probe c.loop-key.from c.loop-key.invariant.0 (all_before m c.loop-key.from is (sym (c.in_default.ensures.value ∙ ap (λ (x : List Record). not_before x c.loop-key.from) same_map)));
-      is_map = is;
       same = c.in_default.ensures.same ∙ c.loop-key.invariant.1;
     }

@@ -1,8 +1,8 @@
-use Rattle.std.proofs.Common.{◌≡◌, ℕ, ◌+◌, ◌-◌, ◌≤◌, cond, length, get_or, take, is_some, sym, refl, ap, ◌∙◌, subst, arith}
+use Rattle.std.proofs.Common.{◌≡◌, ℕ, ◌+◌, ◌-◌, ◌≤◌, cond, length, get_or, take, is_some, sym, refl, ap, ◌∙◌, arith}
 use Rattle.std.proofs.lemmas.List.{take_all}
 use Rattle.std.proofs.lemmas.Bool.{cond-true, cond-false}
 use Rattle.schedule.specs.Transactions.{changed_key}
-use Rattle.timetable.specs.Timetables.{schedule_of, IsMap}
+use Rattle.timetable.specs.Timetables.{schedule_of}
 use Rattle.overlay.specs.Overlays.{done_all, leaves}
 use Rattle.overlay.proofs.Lasts.{no_change}
 use Rattle.overlay.proofs.Dones.{some_there}
@@ -43,7 +43,7 @@ loop-i-preserved g c =
     let n = c.loop-i.count in
     let r = c.has_after-before.result in
     let m = g.S.Timetable.map c.capacity.new.self in
-    let is : IsMap m = subst (λ s. IsMap (g.S.Timetable.map s)) (sym (c.capacity.ensures.same ∙ c.count.ensures.same)) c.count.ensures.is_map in
+    let is = g.met.S.Timetable.is_map c.capacity.new.self in
     let there : r ≡ is_some (schedule_of (done_all m (take i cs)) (changed_key (get_or cs i no_change))) =
     c.has_after-before.ensures.value
     ∙ ap (λ s. is_some (schedule_of (done_all (g.S.Timetable.map s) (take i cs)) c.key.result)) c.loop-i.invariant.1
@@ -75,6 +75,5 @@ returns g c =
           c.loop-i.invariant.0
           ∙ ap (λ s. length (done_all (g.S.Timetable.map s) (take c.loop-i.i c.args.changes.now))) same
           ∙ ap (λ cs. length (done_all (g.S.Timetable.map c.args.store.now) cs)) all;
-      is_map = c.count.ensures.is_map;
       same = c.loop-i.invariant.1 ∙ same;
     }

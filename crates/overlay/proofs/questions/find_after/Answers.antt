@@ -13,42 +13,39 @@ pub returns-in-Some-schedule_left : goal.returns-in-Some-schedule_left
 returns-in-Some-schedule_left g c =
     let m = g.T.Timetable.map c.args.timetable.now in
     let e : schedule_of (done_all m c.args.changes.now) c.args.key ≡ Some c.in-Some-schedule_left.schedule.plain =
-    all_look m c.args.changes.now c.args.key c.find_in-there.ensures.is_map c.requires.lawful
+    all_look m c.args.changes.now c.args.key (g.met.T.Timetable.is_map c.args.timetable.now) c.requires.lawful
     ∙ ap (λ o. after_last o (schedule_of m c.args.key)) (sym c.in-Some.ensures)
     ∙ c.in-Some-schedule_left.ensures in
     record {
       found = sym (ap is_some e);
       copied = sym (ap (λ o. unwrap_or o c.args.place.now.plain) e);
       left = λ h. absurd (true≢false h);
-      is_map = c.find_in-there.ensures.is_map;
-      same = c.find_in-there.ensures.same;
+      same = refl;
     }
 
 pub returns-in-None-schedule_left : goal.returns-in-None-schedule_left
 returns-in-None-schedule_left g c =
     let m = g.T.Timetable.map c.args.timetable.now in
     let e : schedule_of (done_all m c.args.changes.now) c.args.key ≡ None =
-    all_look m c.args.changes.now c.args.key c.find_in-there.ensures.is_map c.requires.lawful
+    all_look m c.args.changes.now c.args.key (g.met.T.Timetable.is_map c.args.timetable.now) c.requires.lawful
     ∙ ap (λ o. after_last o (schedule_of m c.args.key)) (sym c.in-Some.ensures)
     ∙ c.in-None-schedule_left.ensures in
     record {
       found = sym (ap is_some e);
       copied = sym (ap (λ o. unwrap_or o c.args.place.now.plain) e);
       left = λ _. refl;
-      is_map = c.find_in-there.ensures.is_map;
-      same = c.find_in-there.ensures.same;
+      same = refl;
     }
 
 pub returns-in-None : goal.returns-in-None
 returns-in-None g c =
     let m = g.T.Timetable.map c.args.timetable.now in
     let e : schedule_of (done_all m c.args.changes.now) c.args.key ≡ schedule_of m c.args.key =
-    all_look m c.args.changes.now c.args.key c.find_in-there.ensures.is_map c.requires.lawful
+    all_look m c.args.changes.now c.args.key (g.met.T.Timetable.is_map c.args.timetable.now) c.requires.lawful
     ∙ ap (λ o. after_last o (schedule_of m c.args.key)) (sym c.in-None.ensures) in
     record {
-      found = c.find_in-there.ensures.found ∙ sym (ap is_some e);
-      copied = c.find_in-there.ensures.copied ∙ sym (ap (λ o. unwrap_or o c.args.place.now.plain) e);
-      left = c.find_in-there.ensures.left;
-      is_map = c.find_in-there.ensures.is_map;
-      same = c.find_in-there.ensures.same;
+      found = c.find.ensures.found ∙ sym (ap is_some e);
+      copied = c.find.ensures.copied ∙ sym (ap (λ o. unwrap_or o c.args.place.now.plain) e);
+      left = c.find.ensures.left;
+      same = c.find.ensures.same;
     }

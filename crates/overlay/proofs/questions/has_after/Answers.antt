@@ -1,4 +1,4 @@
-use Rattle.std.proofs.Common.{is_some, sym, ap, ◌∙◌}
+use Rattle.std.proofs.Common.{refl, is_some, sym, ap, ◌∙◌}
 use Rattle.timetable.specs.Timetables.{schedule_of}
 use Rattle.overlay.proofs.Dones.{after_last, all_look}
 use Rattle.overlay.proofs.questions.has_after.Goals as goal
@@ -7,16 +7,14 @@ pub returns-in-Some : goal.returns-in-Some
 returns-in-Some g c =
     let m = g.T.Timetable.map c.args.timetable.now in
     record {
-      value = c.sets.ensures ∙ ap (λ o. is_some (after_last o (schedule_of m c.args.key))) c.in-Some.ensures ∙ sym (ap is_some (all_look m c.args.changes.now c.args.key c.find_in-there.ensures.is_map c.requires.lawful));
-      is_map = c.find_in-there.ensures.is_map;
-      same = c.find_in-there.ensures.same;
+      value = c.sets.ensures ∙ ap (λ o. is_some (after_last o (schedule_of m c.args.key))) c.in-Some.ensures ∙ sym (ap is_some (all_look m c.args.changes.now c.args.key (g.met.T.Timetable.is_map c.args.timetable.now) c.requires.lawful));
+      same = refl;
     }
 
 pub returns-in-None : goal.returns-in-None
 returns-in-None g c =
     let m = g.T.Timetable.map c.args.timetable.now in
     record {
-      value = c.find_in-there.ensures.found ∙ ap (λ o. is_some (after_last o (schedule_of m c.args.key))) c.in-None.ensures ∙ sym (ap is_some (all_look m c.args.changes.now c.args.key c.find_in-there.ensures.is_map c.requires.lawful));
-      is_map = c.find_in-there.ensures.is_map;
-      same = c.find_in-there.ensures.same;
+      value = c.find.ensures.found ∙ ap (λ o. is_some (after_last o (schedule_of m c.args.key))) c.in-None.ensures ∙ sym (ap is_some (all_look m c.args.changes.now c.args.key (g.met.T.Timetable.is_map c.args.timetable.now) c.requires.lawful));
+      same = c.find.ensures.same;
     }
