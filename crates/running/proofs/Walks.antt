@@ -1,6 +1,6 @@
 -- A walk over the keys of a train that keeps the best candidate so far.
-use Rattle.std.proofs.Common.{◌≡◌, ℕ, Bool, true, false, eqb, ltb, List, is_some, sym, refl, ap, ◌∙◌, inl, inr, ⊎_elim, arith}
-use Rattle.std.proofs.lemmas.Bool.{and_parts, and_cases, or_cases, or_parts, ltb-true, ltb-false, leb-true, leb-false, eqb-true, eqb-false, cases_order, true≢false}
+use Rattle.std.proofs.Common.{◌≡◌, ℕ, true, false, eqb, ltb, List, is_some, Some, None, Option, sym, refl, ap, ◌∙◌, inl, inr, ⊎_elim, arith}
+use Rattle.std.proofs.lemmas.Bool.{and_parts, and_cases, or_cases, or_parts, ltb-true, ltb-false, leb-true, leb-false, eqb-true, eqb-false, cases_order}
 use Rattle.std.proofs.lemmas.Bool.Decides.{nat_tests}
 use Rattle.forms.specs.declared.letters.Stp.TheVariants.{Cancellation}
 use Rattle.schedule.specs.declared.key.Key.{Key}
@@ -9,6 +9,7 @@ use Rattle.schedule.specs.Keys.{rank_of, key_before}
 use Rattle.schedule.specs.Records.{key_of}
 use Rattle.timetable.specs.Laws.{Has}
 use Rattle.running.specs.Running.{Holds, Candidate, Outranks, outranking}
+use Rattle.running.proofs.Forces.{none_some}
 
 pub held_has : (m : List Record) (r : Record) → Holds m r → Has m (key_of r)
 held_has m r h = ap is_some h
@@ -43,17 +44,17 @@ pub outranks_self : (r : Record) → Outranks r r
 outranks_self r = inr (refl, omega arith)
 
 -- the best candidate among the keys before a probe, or that there is none
-pub record Walked (m : List Record) (uid day : ℕ) (probe : Key) (found : Bool) (best : Record) : Type 0 where
-  pub has : found ≡ true → Candidate m uid day best
-  pub first : found ≡ true → (s : Record) → Candidate m uid day s → key_before (key_of s) probe ≡ true → Outranks best s
-  pub none : found ≡ false → (s : Record) → Candidate m uid day s → key_before (key_of s) probe ≡ true → ⊥
+pub record Walked (m : List Record) (uid day : ℕ) (probe : Key) (best : Option Record) : Type 0 where
+  pub has : (b : Record) → best ≡ Some b → Candidate m uid day b
+  pub first : (b : Record) → best ≡ Some b → (s : Record) → Candidate m uid day s → key_before (key_of s) probe ≡ true → Outranks b s
+  pub none : best ≡ None → (s : Record) → Candidate m uid day s → key_before (key_of s) probe ≡ true → ⊥
 
 before_first : (k : Key) (uid : ℕ) → k.uid ≡ uid → key_before k (record { uid = uid; from = 0; stp = Cancellation }) ≡ true → ⊥
 before_first k uid e h = let z : ◌≡◌ {A = ℕ} 0 1 = grind (arith, nat_tests) in omega arith
 
-pub begin : (m : List Record) (uid day : ℕ) (best : Record) → Walked m uid day (record { uid = uid; from = 0; stp = Cancellation }) false best
-begin m uid day best = record {
-  has = λ h. absurd (true≢false (sym h));
-  first = λ h. absurd (true≢false (sym h));
+pub begin : (m : List Record) (uid day : ℕ) → Walked m uid day (record { uid = uid; from = 0; stp = Cancellation }) None
+begin m uid day = record {
+  has = λ b e. absurd (none_some b e);
+  first = λ b e. absurd (none_some b e);
   none = λ _ s c b. before_first (key_of s) uid c.train b;
 }

@@ -1,7 +1,8 @@
 -- Which schedule of a train is in force on a day.
-use Rattle.std.specs.Prelude.{◌≡◌, ℕ, ◌<◌, ◌≤◌, Bool, true, false, not, ◌&&◌, ◌||◌, ◌⊎◌, List, get_or, Some, ◌==◌, nat_le, nat_lt, slice_index_or}
+use Rattle.std.specs.Prelude.{◌≡◌, ℕ, ◌<◌, ◌≤◌, Bool, true, false, ◌&&◌, ◌||◌, ◌⊎◌, List, get_or, Some, None, Option, ◌==◌, nat_le, nat_lt, slice_index_or}
 use Rattle.calendar.specs.Calendar.{weekday}
 use Rattle.schedule.specs.declared.record.Record.{Record}
+use Rattle.schedule.specs.declared.schedule.Schedule.{Schedule}
 use Rattle.schedule.specs.Keys.{rank_of}
 use Rattle.schedule.specs.Records.{key_of}
 use Rattle.timetable.specs.Timetables.{schedule_of}
@@ -35,6 +36,12 @@ covering r day = nat_le r.key.from day && (nat_le day r.to && slice_index_or r.d
 abbrev pub outranking : Record → Record → Bool
 outranking r s = nat_lt (rank_of r.key.stp) (rank_of s.key.stp) || (rank_of r.key.stp == rank_of s.key.stp && nat_le s.key.from r.key.from)
 
--- whether a schedule takes the place of the best so far, where one was found
-abbrev pub takes : Record → ℕ → Bool → Record → Bool
-takes here day found best = covering here day && (not found || outranking here best)
+-- whether a schedule covers the day and outranks the best so far, if there is one
+abbrev pub takes : Record → ℕ → Option Record → Bool
+takes here day None = covering here day
+takes here day (Some best) = covering here day && outranking here best
+
+-- the record of a schedule, if there is one
+abbrev pub held : Option Schedule → Option Record
+held None = None
+held (Some s) = Some s.plain

@@ -12,138 +12,68 @@ use Rattle.extract.proofs.extract.Extract.take.Goals as goal
 pub take_schedule-requires : goal.take_schedule-requires
 take_schedule-requires g c = record { range = schedule_range c.args.row.now.bytes c.in_ok-schedule-in-Between-BasicSchedule.schedule (sym c.in_ok-schedule-in-Between-BasicSchedule.ensures) }
 
-pub returns-in-Between-LocationInsert : goal.returns-in-Between-LocationInsert
-returns-in-Between-LocationInsert g c =
+pub returns-in-Between-LocationInsert-clause-told : goal.returns-in-Between-LocationInsert-clause-told
+returns-in-Between-LocationInsert-clause-told g c =
     let s = standing g.S.Timetable.map g.S.Timetable.capacity c.args.self.now c.args.overlay.now in
     let cs = pending_in c.args.overlay.now.pending in
-    record {
-      told = λ _. told_by (seen c.pass.new.self cs) _ _ c.pass.result (unread_row s c.args.row.now.identity c.args.row.now.bytes Between Between c.in-Between-LocationInsert.is-0 LocationInsert (sym c.in-Between-LocationInsert.ensures) refl refl refl refl) (c.pass.ensures.told cs);
-      room = room_kept (is_ok c.pass.result) c.args.self.now.stage Between c.pass.new.self.stage (length cs) (ap is_reading c.in-Between-LocationInsert.is-0) c.pass.ensures.stage;
-      unchanged = λ h. (c.pass.ensures.unchanged h, refl);
-      store = refl;
-      reference = c.pass.ensures.reference;
-    }
+    λ _. told_by (seen c.pass.new.self cs) _ _ c.pass.result (unread_row s c.args.row.now.identity c.args.row.now.bytes Between Between c.in-Between-LocationInsert.is-0 LocationInsert (sym c.in-Between-LocationInsert.ensures) refl refl refl refl) (c.pass.ensures.told cs)
 
-pub returns-in-Between-LocationAmend : goal.returns-in-Between-LocationAmend
-returns-in-Between-LocationAmend g c =
+pub returns-in-Between-LocationAmend-clause-told : goal.returns-in-Between-LocationAmend-clause-told
+returns-in-Between-LocationAmend-clause-told g c =
     let s = standing g.S.Timetable.map g.S.Timetable.capacity c.args.self.now c.args.overlay.now in
     let cs = pending_in c.args.overlay.now.pending in
-    record {
-      told = λ _. told_by (seen c.pass-in-Between-LocationAmend.new.self cs) _ _ c.pass-in-Between-LocationAmend.result (unread_row s c.args.row.now.identity c.args.row.now.bytes Between Between c.in-Between-LocationAmend.is-0 LocationAmend (sym c.in-Between-LocationAmend.ensures) refl refl refl refl) (c.pass-in-Between-LocationAmend.ensures.told cs);
-      room = room_kept (is_ok c.pass-in-Between-LocationAmend.result) c.args.self.now.stage Between c.pass-in-Between-LocationAmend.new.self.stage (length cs) (ap is_reading c.in-Between-LocationAmend.is-0) c.pass-in-Between-LocationAmend.ensures.stage;
-      unchanged = λ h. (c.pass-in-Between-LocationAmend.ensures.unchanged h, refl);
-      store = refl;
-      reference = c.pass-in-Between-LocationAmend.ensures.reference;
-    }
+    λ _. told_by (seen c.pass-in-Between-LocationAmend.new.self cs) _ _ c.pass-in-Between-LocationAmend.result (unread_row s c.args.row.now.identity c.args.row.now.bytes Between Between c.in-Between-LocationAmend.is-0 LocationAmend (sym c.in-Between-LocationAmend.ensures) refl refl refl refl) (c.pass-in-Between-LocationAmend.ensures.told cs)
 
-pub returns-in-Between-LocationDelete : goal.returns-in-Between-LocationDelete
-returns-in-Between-LocationDelete g c =
+pub returns-in-Between-LocationDelete-clause-told : goal.returns-in-Between-LocationDelete-clause-told
+returns-in-Between-LocationDelete-clause-told g c =
     let s = standing g.S.Timetable.map g.S.Timetable.capacity c.args.self.now c.args.overlay.now in
     let cs = pending_in c.args.overlay.now.pending in
-    record {
-      told = λ _. told_by (seen c.pass-in-Between-LocationDelete.new.self cs) _ _ c.pass-in-Between-LocationDelete.result (unread_row s c.args.row.now.identity c.args.row.now.bytes Between Between c.in-Between-LocationDelete.is-0 LocationDelete (sym c.in-Between-LocationDelete.ensures) refl refl refl refl) (c.pass-in-Between-LocationDelete.ensures.told cs);
-      room = room_kept (is_ok c.pass-in-Between-LocationDelete.result) c.args.self.now.stage Between c.pass-in-Between-LocationDelete.new.self.stage (length cs) (ap is_reading c.in-Between-LocationDelete.is-0) c.pass-in-Between-LocationDelete.ensures.stage;
-      unchanged = λ h. (c.pass-in-Between-LocationDelete.ensures.unchanged h, refl);
-      store = refl;
-      reference = c.pass-in-Between-LocationDelete.ensures.reference;
-    }
+    λ _. told_by (seen c.pass-in-Between-LocationDelete.new.self cs) _ _ c.pass-in-Between-LocationDelete.result (unread_row s c.args.row.now.identity c.args.row.now.bytes Between Between c.in-Between-LocationDelete.is-0 LocationDelete (sym c.in-Between-LocationDelete.ensures) refl refl refl refl) (c.pass-in-Between-LocationDelete.ensures.told cs)
 
-pub returns-in-Between-Association : goal.returns-in-Between-Association
-returns-in-Between-Association g c =
+pub returns-in-Between-Association-clause-told : goal.returns-in-Between-Association-clause-told
+returns-in-Between-Association-clause-told g c =
     let s = standing g.S.Timetable.map g.S.Timetable.capacity c.args.self.now c.args.overlay.now in
     let cs = pending_in c.args.overlay.now.pending in
-    record {
-      told = λ _. told_by (seen c.pass-in-Between-Association.new.self cs) _ _ c.pass-in-Between-Association.result (unread_row s c.args.row.now.identity c.args.row.now.bytes Between Between c.in-Between-Association.is-0 Association (sym c.in-Between-Association.ensures) refl refl refl refl) (c.pass-in-Between-Association.ensures.told cs);
-      room = room_kept (is_ok c.pass-in-Between-Association.result) c.args.self.now.stage Between c.pass-in-Between-Association.new.self.stage (length cs) (ap is_reading c.in-Between-Association.is-0) c.pass-in-Between-Association.ensures.stage;
-      unchanged = λ h. (c.pass-in-Between-Association.ensures.unchanged h, refl);
-      store = refl;
-      reference = c.pass-in-Between-Association.ensures.reference;
-    }
+    λ _. told_by (seen c.pass-in-Between-Association.new.self cs) _ _ c.pass-in-Between-Association.result (unread_row s c.args.row.now.identity c.args.row.now.bytes Between Between c.in-Between-Association.is-0 Association (sym c.in-Between-Association.ensures) refl refl refl refl) (c.pass-in-Between-Association.ensures.told cs)
 
-pub returns-in-Running-ChangeEnRoute : goal.returns-in-Running-ChangeEnRoute
-returns-in-Running-ChangeEnRoute g c =
+pub returns-in-Running-ChangeEnRoute-clause-told : goal.returns-in-Running-ChangeEnRoute-clause-told
+returns-in-Running-ChangeEnRoute-clause-told g c =
     let s = standing g.S.Timetable.map g.S.Timetable.capacity c.args.self.now c.args.overlay.now in
     let cs = pending_in c.args.overlay.now.pending in
-    record {
-      told = λ _. told_by (seen c.pass-in-Running-ChangeEnRoute.new.self cs) _ _ c.pass-in-Running-ChangeEnRoute.result (unread_row s c.args.row.now.identity c.args.row.now.bytes Running Changed c.in-Running-ChangeEnRoute.is-0 ChangeEnRoute (sym c.in-Running-ChangeEnRoute.ensures) refl refl refl refl) (c.pass-in-Running-ChangeEnRoute.ensures.told cs);
-      room = room_kept (is_ok c.pass-in-Running-ChangeEnRoute.result) c.args.self.now.stage Changed c.pass-in-Running-ChangeEnRoute.new.self.stage (length cs) (ap is_reading c.in-Running-ChangeEnRoute.is-0) c.pass-in-Running-ChangeEnRoute.ensures.stage;
-      unchanged = λ h. (c.pass-in-Running-ChangeEnRoute.ensures.unchanged h, refl);
-      store = refl;
-      reference = c.pass-in-Running-ChangeEnRoute.ensures.reference;
-    }
+    λ _. told_by (seen c.pass-in-Running-ChangeEnRoute.new.self cs) _ _ c.pass-in-Running-ChangeEnRoute.result (unread_row s c.args.row.now.identity c.args.row.now.bytes Running Changed c.in-Running-ChangeEnRoute.is-0 ChangeEnRoute (sym c.in-Running-ChangeEnRoute.ensures) refl refl refl refl) (c.pass-in-Running-ChangeEnRoute.ensures.told cs)
 
-pub returns-in_ok-operator-in-Begun-BasicExtra : goal.returns-in_ok-operator-in-Begun-BasicExtra
-returns-in_ok-operator-in-Begun-BasicExtra g c =
+pub returns-in_ok-operator-in-Begun-BasicExtra-clause-told : goal.returns-in_ok-operator-in-Begun-BasicExtra-clause-told
+returns-in_ok-operator-in-Begun-BasicExtra-clause-told g c =
     let s = standing g.S.Timetable.map g.S.Timetable.capacity c.args.self.now c.args.overlay.now in
     let cs = pending_in c.args.overlay.now.pending in
-    record {
-      told = λ _. told_by (seen c.take_operator.new.self cs) _ _ c.take_operator.result (operator_row s c.args.row.now.identity c.args.row.now.bytes c.in_ok-operator-in-Begun-BasicExtra.field-0 c.in-Begun-BasicExtra.is-0 (sym c.in-Begun-BasicExtra.ensures) (sym c.in_ok-operator-in-Begun-BasicExtra.ensures)) (c.take_operator.ensures.told cs);
-      room = room_kept (is_ok c.take_operator.result) c.args.self.now.stage Extra c.take_operator.new.self.stage (length cs) (ap is_reading c.in-Begun-BasicExtra.is-0) c.take_operator.ensures.stage;
-      unchanged = λ h. (c.take_operator.ensures.unchanged h, refl);
-      store = refl;
-      reference = c.take_operator.ensures.reference;
-    }
+    λ _. told_by (seen c.take_operator.new.self cs) _ _ c.take_operator.result (operator_row s c.args.row.now.identity c.args.row.now.bytes c.in_ok-operator-in-Begun-BasicExtra.field-0 c.in-Begun-BasicExtra.is-0 (sym c.in-Begun-BasicExtra.ensures) (sym c.in_ok-operator-in-Begun-BasicExtra.ensures)) (c.take_operator.ensures.told cs)
 
-pub returns-in_ok-origin-in-Begun-Origin : goal.returns-in_ok-origin-in-Begun-Origin
-returns-in_ok-origin-in-Begun-Origin g c =
+pub returns-in_ok-origin-in-Begun-Origin-clause-told : goal.returns-in_ok-origin-in-Begun-Origin-clause-told
+returns-in_ok-origin-in-Begun-Origin-clause-told g c =
     let s = standing g.S.Timetable.map g.S.Timetable.capacity c.args.self.now c.args.overlay.now in
     let cs = pending_in c.args.overlay.now.pending in
-    record {
-      told = λ _. told_by (seen c.take_call.new.self cs) _ _ c.take_call.result (origin_row s c.args.row.now.identity c.args.row.now.bytes c.in_ok-origin-in-Begun-Origin.field-0 Begun c.in-Begun-Origin.is-0 (sym c.in-Begun-Origin.ensures) refl refl (sym c.in_ok-origin-in-Begun-Origin.ensures)) (c.take_call.ensures.told cs);
-      room = room_kept (is_ok c.take_call.result) c.args.self.now.stage Running c.take_call.new.self.stage (length cs) (ap is_reading c.in-Begun-Origin.is-0) c.take_call.ensures.stage;
-      unchanged = λ h. (c.take_call.ensures.unchanged h, refl);
-      store = refl;
-      reference = c.take_call.ensures.reference;
-    }
+    λ _. told_by (seen c.take_call.new.self cs) _ _ c.take_call.result (origin_row s c.args.row.now.identity c.args.row.now.bytes c.in_ok-origin-in-Begun-Origin.field-0 Begun c.in-Begun-Origin.is-0 (sym c.in-Begun-Origin.ensures) refl refl (sym c.in_ok-origin-in-Begun-Origin.ensures)) (c.take_call.ensures.told cs)
 
-pub returns-in_ok-origin-in-Extra-Origin : goal.returns-in_ok-origin-in-Extra-Origin
-returns-in_ok-origin-in-Extra-Origin g c =
+pub returns-in_ok-origin-in-Extra-Origin-clause-told : goal.returns-in_ok-origin-in-Extra-Origin-clause-told
+returns-in_ok-origin-in-Extra-Origin-clause-told g c =
     let s = standing g.S.Timetable.map g.S.Timetable.capacity c.args.self.now c.args.overlay.now in
     let cs = pending_in c.args.overlay.now.pending in
-    record {
-      told = λ _. told_by (seen c.take_call-in-Extra-Origin.new.self cs) _ _ c.take_call-in-Extra-Origin.result (origin_row s c.args.row.now.identity c.args.row.now.bytes c.in_ok-origin-in-Extra-Origin.field-0 Extra c.in-Extra-Origin.is-0 (sym c.in-Extra-Origin.ensures) refl refl (sym c.in_ok-origin-in-Extra-Origin.ensures)) (c.take_call-in-Extra-Origin.ensures.told cs);
-      room = room_kept (is_ok c.take_call-in-Extra-Origin.result) c.args.self.now.stage Running c.take_call-in-Extra-Origin.new.self.stage (length cs) (ap is_reading c.in-Extra-Origin.is-0) c.take_call-in-Extra-Origin.ensures.stage;
-      unchanged = λ h. (c.take_call-in-Extra-Origin.ensures.unchanged h, refl);
-      store = refl;
-      reference = c.take_call-in-Extra-Origin.ensures.reference;
-    }
+    λ _. told_by (seen c.take_call-in-Extra-Origin.new.self cs) _ _ c.take_call-in-Extra-Origin.result (origin_row s c.args.row.now.identity c.args.row.now.bytes c.in_ok-origin-in-Extra-Origin.field-0 Extra c.in-Extra-Origin.is-0 (sym c.in-Extra-Origin.ensures) refl refl (sym c.in_ok-origin-in-Extra-Origin.ensures)) (c.take_call-in-Extra-Origin.ensures.told cs)
 
-pub returns-in_ok-intermediate-in-Running-Intermediate : goal.returns-in_ok-intermediate-in-Running-Intermediate
-returns-in_ok-intermediate-in-Running-Intermediate g c =
+pub returns-in_ok-intermediate-in-Running-Intermediate-clause-told : goal.returns-in_ok-intermediate-in-Running-Intermediate-clause-told
+returns-in_ok-intermediate-in-Running-Intermediate-clause-told g c =
     let s = standing g.S.Timetable.map g.S.Timetable.capacity c.args.self.now c.args.overlay.now in
     let cs = pending_in c.args.overlay.now.pending in
-    record {
-      told = λ _. told_by (seen c.take_call-in-Running-Intermediate.new.self cs) _ _ c.take_call-in-Running-Intermediate.result (intermediate_row s c.args.row.now.identity c.args.row.now.bytes c.in_ok-intermediate-in-Running-Intermediate.field-0 Running c.in-Running-Intermediate.is-0 (sym c.in-Running-Intermediate.ensures) refl refl (sym c.in_ok-intermediate-in-Running-Intermediate.ensures)) (c.take_call-in-Running-Intermediate.ensures.told cs);
-      room = room_kept (is_ok c.take_call-in-Running-Intermediate.result) c.args.self.now.stage Running c.take_call-in-Running-Intermediate.new.self.stage (length cs) (ap is_reading c.in-Running-Intermediate.is-0) c.take_call-in-Running-Intermediate.ensures.stage;
-      unchanged = λ h. (c.take_call-in-Running-Intermediate.ensures.unchanged h, refl);
-      store = refl;
-      reference = c.take_call-in-Running-Intermediate.ensures.reference;
-    }
+    λ _. told_by (seen c.take_call-in-Running-Intermediate.new.self cs) _ _ c.take_call-in-Running-Intermediate.result (intermediate_row s c.args.row.now.identity c.args.row.now.bytes c.in_ok-intermediate-in-Running-Intermediate.field-0 Running c.in-Running-Intermediate.is-0 (sym c.in-Running-Intermediate.ensures) refl refl (sym c.in_ok-intermediate-in-Running-Intermediate.ensures)) (c.take_call-in-Running-Intermediate.ensures.told cs)
 
-pub returns-in_ok-intermediate-in-Changed-Intermediate : goal.returns-in_ok-intermediate-in-Changed-Intermediate
-returns-in_ok-intermediate-in-Changed-Intermediate g c =
+pub returns-in_ok-intermediate-in-Changed-Intermediate-clause-told : goal.returns-in_ok-intermediate-in-Changed-Intermediate-clause-told
+returns-in_ok-intermediate-in-Changed-Intermediate-clause-told g c =
     let s = standing g.S.Timetable.map g.S.Timetable.capacity c.args.self.now c.args.overlay.now in
     let cs = pending_in c.args.overlay.now.pending in
-    record {
-      told = λ _. told_by (seen c.take_call-in-Changed-Intermediate.new.self cs) _ _ c.take_call-in-Changed-Intermediate.result (intermediate_row s c.args.row.now.identity c.args.row.now.bytes c.in_ok-intermediate-in-Changed-Intermediate.field-0 Changed c.in-Changed-Intermediate.is-0 (sym c.in-Changed-Intermediate.ensures) refl refl (sym c.in_ok-intermediate-in-Changed-Intermediate.ensures)) (c.take_call-in-Changed-Intermediate.ensures.told cs);
-      room = room_kept (is_ok c.take_call-in-Changed-Intermediate.result) c.args.self.now.stage Running c.take_call-in-Changed-Intermediate.new.self.stage (length cs) (ap is_reading c.in-Changed-Intermediate.is-0) c.take_call-in-Changed-Intermediate.ensures.stage;
-      unchanged = λ h. (c.take_call-in-Changed-Intermediate.ensures.unchanged h, refl);
-      store = refl;
-      reference = c.take_call-in-Changed-Intermediate.ensures.reference;
-    }
+    λ _. told_by (seen c.take_call-in-Changed-Intermediate.new.self cs) _ _ c.take_call-in-Changed-Intermediate.result (intermediate_row s c.args.row.now.identity c.args.row.now.bytes c.in_ok-intermediate-in-Changed-Intermediate.field-0 Changed c.in-Changed-Intermediate.is-0 (sym c.in-Changed-Intermediate.ensures) refl refl (sym c.in_ok-intermediate-in-Changed-Intermediate.ensures)) (c.take_call-in-Changed-Intermediate.ensures.told cs)
 
-pub returns-in_ok-terminus-in-Running-Terminus : goal.returns-in_ok-terminus-in-Running-Terminus
-returns-in_ok-terminus-in-Running-Terminus g c =
+pub returns-in_ok-terminus-in-Running-Terminus-clause-told : goal.returns-in_ok-terminus-in-Running-Terminus-clause-told
+returns-in_ok-terminus-in-Running-Terminus-clause-told g c =
     let s = standing g.S.Timetable.map g.S.Timetable.capacity c.args.self.now c.args.overlay.now in
     let n = length (pending_in c.args.overlay.now.pending) in
-    let kept : is_ok c.take_terminus.result ≡ false → (c.take_terminus.new.self ≡ c.args.self.now) × (c.take_terminus.new.pending ≡ c.args.overlay.now.pending) = c.take_terminus.ensures.unchanged in
-    record {
-      told = λ h. told_by (seen c.take_terminus.new.self (pending_in c.take_terminus.new.pending)) _ _ c.take_terminus.result (terminus_row s c.args.row.now.identity c.args.row.now.bytes c.in_ok-terminus-in-Running-Terminus.field-0 c.in-Running-Terminus.is-0 (sym c.in-Running-Terminus.ensures) (sym c.in_ok-terminus-in-Running-Terminus.ensures)) (c.take_terminus.ensures.told (sym (ap (λ x. has_room x n) c.in-Running-Terminus.is-0) ∙ h));
-      room = λ h. ⊎_elim
-          (λ ok. c.take_terminus.ensures.room ok)
-          (λ refused. ap (λ x. has_room x.stage (length (pending_in c.take_terminus.new.pending))) (kept refused).0 ∙ (ap (λ p. has_room c.args.self.now.stage (length (pending_in p))) (kept refused).1 ∙ h))
-          (cases_Bool (is_ok c.take_terminus.result));
-      unchanged = λ h. ((kept h).0, ap (λ p. record { store = c.args.overlay.now.store; pending = p }) (kept h).1);
-      store = refl;
-      reference = c.take_terminus.ensures.reference;
-    }
+    λ h. told_by (seen c.take_terminus.new.self (pending_in c.take_terminus.new.pending)) _ _ c.take_terminus.result (terminus_row s c.args.row.now.identity c.args.row.now.bytes c.in_ok-terminus-in-Running-Terminus.field-0 c.in-Running-Terminus.is-0 (sym c.in-Running-Terminus.ensures) (sym c.in_ok-terminus-in-Running-Terminus.ensures)) (c.take_terminus.ensures.told (sym (ap (λ x. has_room x n) c.in-Running-Terminus.is-0) ∙ h))
