@@ -32,11 +32,6 @@ impl<S> Controller<S> {
     pub fn pending_at(&self, place: usize) -> Option<Change>
         ensures { MatchOption result (length (progress_in self.now).changes ≤ place) (λ t. (place < length (progress_in self.now).changes) × ((d : Change) → t ≡ slice_index_or (progress_in self.now).changes place d)) }
     {
-        let pending = self.overlay.pending.as_slice();
-        if place < pending.len() {
-            Some(pending[place])
-        } else {
-            None
-        }
+        self.overlay.pending.as_slice().get(place).copied()
     }
 }

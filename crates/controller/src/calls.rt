@@ -67,9 +67,7 @@ impl<S: Store> Controller<S> {
         ensures agrees { (rows : List (List ℕ)) → Agrees (S.Timetable.map self.old.overlay.store) (S.Timetable.capacity self.old.overlay.store) rows (progress_in self.old) → is_ok result ≡ true
             → Agrees (S.Timetable.map self.new.overlay.store) (S.Timetable.capacity self.new.overlay.store) [] (progress_in self.new) }
     {
-        if let Err(fault) = self.extract.abandon() {
-            return without_row(Err(fault));
-        }
+        without_row(self.extract.abandon())?;
         self.overlay.pending.clear();
         Ok(())
     }
