@@ -17,11 +17,11 @@ impl<S: Store> Timetable for Overlay<S> {
     ghost is_map = { λ o. all_map (S.Timetable.map o.store) (pending_in o.pending) (S.Timetable.is_map o.store) o.pending.lawful };
 
     fn count(&mut self) -> usize {
-        count_after(&mut self.store, self.pending.as_slice())
+        count_after(&mut self.store, &self.pending.all())
     }
 
     fn find(&mut self, key: Key, place: &mut Schedule) -> bool {
-        find_after(&mut self.store, self.pending.as_slice(), key, place)
+        find_after(&mut self.store, &self.pending.all(), key, place)
     }
 
     fn not_before(&mut self, probe: Key) -> Option<Key> {

@@ -26,7 +26,7 @@ impl<S: Store> Overlay<S> {
         ensures value { result ≡ is_some (schedule_of (overlay_of S.Timetable.map self.old) key) }
         ensures same { self.new ≡ self.old }
     {
-        has_after(&mut self.store, self.pending.as_slice(), key)
+        has_after(&mut self.store, &self.pending.all(), key)
     }
 
     // Whether the overlay has as many keys as the store has room for.
@@ -34,6 +34,6 @@ impl<S: Store> Overlay<S> {
         ensures value { result ≡ (length (overlay_of S.Timetable.map self.old) == S.Timetable.capacity self.old.store) }
         ensures same { self.new ≡ self.old }
     {
-        count_after(&mut self.store, self.pending.as_slice()) == self.store.capacity()
+        count_after(&mut self.store, &self.pending.all()) == self.store.capacity()
     }
 }

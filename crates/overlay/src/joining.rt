@@ -1,9 +1,9 @@
 // How transactions become pending, and cease to be.
-ghost use Rattle.std.specs.Prelude.{◌≡◌, Bool, true, false, [], ◌∷◌, ◌++◌, length, is_ok, nat_lt};
+ghost use Rattle.std.specs.Prelude.{◌≡◌, Bool, true, false, [], ◌∷◌, ◌++◌, ◌≤◌, take, length, is_ok, nat_lt};
 ghost use Rattle.schedule.specs.Transactions.{plain_of};
 ghost use Rattle.overlay.specs.Overlays.{pending_in};
 
-use crate::pending::{MOST, Pending};
+use crate::pending::{Changes, MOST, Pending};
 use ordered::table::Full;
 use schedule::schedule::Schedule;
 use schedule::transaction::{Change, Transaction};
@@ -24,6 +24,15 @@ impl Pending {
         ensures { result.now ≡ pending_in self.now }
     {
         &self.slots[..self.len]
+    }
+
+    // All that is pending.
+    pub(crate) fn all(&self) -> Changes<'_>
+        ensures { result.list.now ≡ pending_in self.now }
+    {
+        Changes {
+            list: self.as_slice(),
+        }
     }
 
     pub fn len(&self) -> usize
@@ -52,5 +61,17 @@ impl Pending {
         ensures { pending_in self.new ≡ [] }
     {
         self.len = 0;
+    }
+}
+
+impl Changes<'_> {
+    // The first of them.
+    pub(crate) fn first(&self, n: usize) -> Changes<'_>
+        requires { n ≤ length self.now.list.now }
+        ensures { result.list.now ≡ take n self.now.list.now }
+    {
+        Changes {
+            list: &self.list[..n],
+        }
     }
 }

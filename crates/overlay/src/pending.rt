@@ -15,3 +15,11 @@ pub struct Pending {
     ghost few: { len ≤ 32 },
     ghost lawful: { every_lawful (take len slots) ≡ true },
 }
+
+// Some of the pending transactions, lent.
+#[derive(Clone, Copy)]
+pub(crate) struct Changes<'a> {
+    pub(crate) list: &'a [Change],
+    ghost few: { length list.now ≤ 32 },
+    ghost lawful: { every_lawful list.now ≡ true },
+}

@@ -1,11 +1,12 @@
 // What can be asked of a store with transactions pending over it.
 ghost use Rattle.std.specs.Prelude.{◌≡◌, ◌≤◌, Bool, true, false, length, is_some, Some, None, MatchOption};
 ghost use Rattle.std.specs.Option.{unwrap_or};
-ghost use Rattle.schedule.specs.Transactions.{is_lawful, every_lawful};
+ghost use Rattle.schedule.specs.Transactions.{is_lawful};
 ghost use Rattle.timetable.specs.Timetables.{schedule_of};
 ghost use Rattle.overlay.specs.Overlays.{done_all, leaves};
 
 use crate::last::last_on;
+use crate::pending::Changes;
 use schedule::key::Key;
 use schedule::schedule::Schedule;
 use schedule::transaction::Change;
@@ -30,12 +31,11 @@ fn schedule_left(change: &Change) -> Option<Schedule>
 }
 
 // Whether a key is there after some transactions.
-pub(crate) fn has_after<T: Timetable>(timetable: &mut T, changes: &[Change], key: Key) -> bool
-    requires lawful { every_lawful changes.now ≡ true }
-    ensures value { result ≡ is_some (schedule_of (done_all (T.Timetable.map timetable.old) changes.now) key) }
+pub(crate) fn has_after<T: Timetable>(timetable: &mut T, changes: &Changes<'_>, key: Key) -> bool
+    ensures value { result ≡ is_some (schedule_of (done_all (T.Timetable.map timetable.old) changes.now.list.now) key) }
     ensures same { timetable.new ≡ timetable.old }
 {
-    match last_on(changes, key) {
+    match last_on(changes.list, key) {
         Some(change) => sets(&change),
         None => timetable.find(key, &mut Schedule::blank()),
     }
@@ -44,17 +44,16 @@ pub(crate) fn has_after<T: Timetable>(timetable: &mut T, changes: &[Change], key
 // Whether a key is there after some transactions. Its schedule is copied to `place`, which is left as it was where the key is absent.
 pub(crate) fn find_after<T: Timetable>(
     timetable: &mut T,
-    changes: &[Change],
+    changes: &Changes<'_>,
     key: Key,
     place: &mut Schedule,
 ) -> bool
-    requires lawful { every_lawful changes.now ≡ true }
-    ensures found { result ≡ is_some (schedule_of (done_all (T.Timetable.map timetable.old) changes.now) key) }
-    ensures copied { place.new.plain ≡ unwrap_or (schedule_of (done_all (T.Timetable.map timetable.old) changes.now) key) place.old.plain }
+    ensures found { result ≡ is_some (schedule_of (done_all (T.Timetable.map timetable.old) changes.now.list.now) key) }
+    ensures copied { place.new.plain ≡ unwrap_or (schedule_of (done_all (T.Timetable.map timetable.old) changes.now.list.now) key) place.old.plain }
     ensures left { result ≡ false → place.new ≡ place.old }
     ensures same { timetable.new ≡ timetable.old }
 {
-    match last_on(changes, key) {
+    match last_on(changes.list, key) {
         Some(change) => match schedule_left(&change) {
             Some(schedule) => {
                 *place = schedule;
@@ -67,16 +66,14 @@ pub(crate) fn find_after<T: Timetable>(
 }
 
 // How many keys there are after some transactions on a store.
-pub(crate) fn count_after<S: Store>(store: &mut S, changes: &[Change]) -> usize
-    requires lawful { every_lawful changes.now ≡ true }
-    requires few { length changes.now ≤ 32 }
-    ensures value { result ≡ length (done_all (S.Timetable.map store.old) changes.now) }
+pub(crate) fn count_after<S: Store>(store: &mut S, changes: &Changes<'_>) -> usize
+    ensures value { result ≡ length (done_all (S.Timetable.map store.old) changes.now.list.now) }
     ensures same { store.new ≡ store.old }
 {
     // a store's count is never above its capacity
     let mut count = store.count().min(store.capacity());
-    for (i, change) in changes.iter().enumerate() {
-        let before = has_after(store, &changes[..i], change.key());
+    for (i, change) in changes.list.iter().enumerate() {
+        let before = has_after(store, &changes.first(i), change.key());
         if sets(change) {
             if !before {
                 count += 1;

@@ -6,12 +6,9 @@ use Rattle.timetable.specs.Timetables.{schedule_of}
 use Rattle.overlay.specs.Overlays.{done_all, leaves}
 use Rattle.overlay.proofs.Lasts.{no_change}
 use Rattle.overlay.proofs.Dones.{some_there}
-use Rattle.overlay.proofs.Counts.{lawful_take, count_more}
+use Rattle.overlay.proofs.Counts.{count_more}
 use Rattle.overlay.proofs.questions.count_after.Goals as goal
 use Rattle.overlay.proofs.questions.count_after.Goals.{then-sets+then-not-before, then-sets+else-not-before, else-sets+then-before, else-sets+else-before}
-
-pub has_after-before-requires : goal.has_after-before-requires
-has_after-before-requires g c = record { lawful = lawful_take c.loop-i.i c.args.changes.now c.requires.lawful }
 
 pub loop-i-init : goal.loop-i-init
 loop-i-init g c =
@@ -24,13 +21,13 @@ loop-i-init g c =
     (omega arith, refl, omega arith)
 
 pub overflow_add-count : goal.overflow_add-count
-overflow_add-count g c = let few = c.requires.few in let t = c.loop-i-test.true in let i = c.loop-i.invariant.2 in omega arith
+overflow_add-count g c = let few = c.args.changes.now.few in let t = c.loop-i-test.true in let i = c.loop-i.invariant.2 in omega arith
 
 pub overflow_sub-count : goal.overflow_sub-count
 overflow_sub-count g c =
     let m = g.S.Timetable.map c.loop-i.store in
-    let there = some_there (done_all m (take c.loop-i.i c.args.changes.now)) c.key.result (sym c.has_after-before.ensures.value ∙ c.if-before.true) in
-    let n : c.loop-i.count ≡ length (done_all m (take c.loop-i.i c.args.changes.now)) = c.loop-i.invariant.0 ∙ ap (λ s. length (done_all (g.S.Timetable.map s) (take c.loop-i.i c.args.changes.now))) (sym c.loop-i.invariant.1) in
+    let there = some_there (done_all m (take c.loop-i.i c.args.changes.now.list.now)) c.key.result (sym (c.has_after-before.ensures.value ∙ ap (λ cs. is_some (schedule_of (done_all m cs) c.key.result)) c.first.ensures) ∙ c.if-before.true) in
+    let n : c.loop-i.count ≡ length (done_all m (take c.loop-i.i c.args.changes.now.list.now)) = c.loop-i.invariant.0 ∙ ap (λ s. length (done_all (g.S.Timetable.map s) (take c.loop-i.i c.args.changes.now.list.now))) (sym c.loop-i.invariant.1) in
     more c.loop-i.count (λ z. there (sym n ∙ z))
   where
     more : (n : ℕ) → (n ≡ 0 → ⊥) → 1 ≤ n
@@ -38,7 +35,7 @@ overflow_sub-count g c =
 
 pub loop-i-preserved : goal.loop-i-preserved
 loop-i-preserved g c =
-    let cs = c.args.changes.now in
+    let cs = c.args.changes.now.list.now in
     let i = c.loop-i.i in
     let n = c.loop-i.count in
     let r = c.has_after-before.result in
@@ -46,6 +43,7 @@ loop-i-preserved g c =
     let is = g.met.S.Timetable.is_map c.capacity.new.self in
     let there : r ≡ is_some (schedule_of (done_all m (take i cs)) (changed_key (get_or cs i no_change))) =
     c.has_after-before.ensures.value
+    ∙ ap (λ cs. is_some (schedule_of (done_all (g.S.Timetable.map c.loop-i.store) cs) c.key.result)) c.first.ensures
     ∙ ap (λ s. is_some (schedule_of (done_all (g.S.Timetable.map s) (take i cs)) c.key.result)) c.loop-i.invariant.1
     ∙ ap (λ k. is_some (schedule_of (done_all m (take i cs)) k)) c.key.ensures in
     let b : c.sets.result ≡ is_some (leaves (get_or cs i no_change)) = c.sets.ensures in
@@ -64,16 +62,16 @@ loop-i-preserved g c =
       | else-sets+then-before w ↦ omega (arith, w.count-is)
       | else-sets+else-before w ↦ omega (arith, w.count-is)
     ]) in
-    (count_more m cs i n c.if-sets.count r c.loop-i-test.true is c.requires.lawful there c.loop-i.invariant.0 e, c.has_after-before.ensures.same ∙ c.loop-i.invariant.1, few)
+    (count_more m cs i n c.if-sets.count r c.loop-i-test.true is c.args.changes.now.lawful there c.loop-i.invariant.0 e, c.has_after-before.ensures.same ∙ c.loop-i.invariant.1, few)
 
 pub returns : goal.returns
 returns g c =
     let same = c.capacity.ensures.same ∙ c.count.ensures.same in
-    let all = take_all c.loop-i.i c.args.changes.now c.loop-i-test.false in
+    let all = take_all c.loop-i.i c.args.changes.now.list.now c.loop-i-test.false in
     record {
       value =
           c.loop-i.invariant.0
-          ∙ ap (λ s. length (done_all (g.S.Timetable.map s) (take c.loop-i.i c.args.changes.now))) same
+          ∙ ap (λ s. length (done_all (g.S.Timetable.map s) (take c.loop-i.i c.args.changes.now.list.now))) same
           ∙ ap (λ cs. length (done_all (g.S.Timetable.map c.args.store.now) cs)) all;
       same = c.loop-i.invariant.1 ∙ same;
     }

@@ -7,13 +7,13 @@ use Rattle.overlay.proofs.Lawful.{lawful_last}
 use Rattle.overlay.proofs.questions.find_after.Goals as goal
 
 pub schedule_left-requires : goal.schedule_left-requires
-schedule_left-requires g c = record { lawful = lawful_last c.args.key c.args.changes.now c.in-Some.change c.requires.lawful (sym c.in-Some.ensures) }
+schedule_left-requires g c = record { lawful = lawful_last c.args.key c.args.changes.now.list.now c.in-Some.change c.args.changes.now.lawful (sym c.in-Some.ensures) }
 
 pub returns-in-Some-schedule_left : goal.returns-in-Some-schedule_left
 returns-in-Some-schedule_left g c =
     let m = g.T.Timetable.map c.args.timetable.now in
-    let e : schedule_of (done_all m c.args.changes.now) c.args.key ≡ Some c.in-Some-schedule_left.schedule.plain =
-    all_look m c.args.changes.now c.args.key (g.met.T.Timetable.is_map c.args.timetable.now) c.requires.lawful
+    let e : schedule_of (done_all m c.args.changes.now.list.now) c.args.key ≡ Some c.in-Some-schedule_left.schedule.plain =
+    all_look m c.args.changes.now.list.now c.args.key (g.met.T.Timetable.is_map c.args.timetable.now) c.args.changes.now.lawful
     ∙ ap (λ o. after_last o (schedule_of m c.args.key)) (sym c.in-Some.ensures)
     ∙ c.in-Some-schedule_left.ensures in
     record {
@@ -26,8 +26,8 @@ returns-in-Some-schedule_left g c =
 pub returns-in-None-schedule_left : goal.returns-in-None-schedule_left
 returns-in-None-schedule_left g c =
     let m = g.T.Timetable.map c.args.timetable.now in
-    let e : schedule_of (done_all m c.args.changes.now) c.args.key ≡ None =
-    all_look m c.args.changes.now c.args.key (g.met.T.Timetable.is_map c.args.timetable.now) c.requires.lawful
+    let e : schedule_of (done_all m c.args.changes.now.list.now) c.args.key ≡ None =
+    all_look m c.args.changes.now.list.now c.args.key (g.met.T.Timetable.is_map c.args.timetable.now) c.args.changes.now.lawful
     ∙ ap (λ o. after_last o (schedule_of m c.args.key)) (sym c.in-Some.ensures)
     ∙ c.in-None-schedule_left.ensures in
     record {
@@ -40,8 +40,8 @@ returns-in-None-schedule_left g c =
 pub returns-in-None : goal.returns-in-None
 returns-in-None g c =
     let m = g.T.Timetable.map c.args.timetable.now in
-    let e : schedule_of (done_all m c.args.changes.now) c.args.key ≡ schedule_of m c.args.key =
-    all_look m c.args.changes.now c.args.key (g.met.T.Timetable.is_map c.args.timetable.now) c.requires.lawful
+    let e : schedule_of (done_all m c.args.changes.now.list.now) c.args.key ≡ schedule_of m c.args.key =
+    all_look m c.args.changes.now.list.now c.args.key (g.met.T.Timetable.is_map c.args.timetable.now) c.args.changes.now.lawful
     ∙ ap (λ o. after_last o (schedule_of m c.args.key)) (sym c.in-None.ensures) in
     record {
       found = c.find.ensures.found ∙ sym (ap is_some e);
