@@ -1,74 +1,88 @@
--- What became of a table after a search and a change at the place that it found.
-use Rattle.std.proofs.Common.{◌≡◌, ℕ, ◌<◌, ◌≤◌, Bool, true, false, cond, List, length, drop, set, sym, ap, ◌∙◌, subst, arith}
+-- What became of the elements after a search and a change at the place that it found.
+use Rattle.std.proofs.Common.{◌≡◌, ℕ, ◌≤◌, Bool, true, false, cond, ◌||◌, nat_lt, List, [], ◌∷◌, length, drop, set, slice_get, is_some, Some, Option, inl, inr, sym, ap, ◌∙◌, refl, subst, arith}
 use Rattle.std.specs.List.{insert, remove}
-use Rattle.std.proofs.lemmas.List.{length-take-le}
+use Rattle.std.specs.Option.{option_map}
+use Rattle.std.proofs.lemmas.Option.{slice_get-get_or, slice_get_cases}
 use Rattle.maps.specs.Orders.{Lawful}
-use Rattle.maps.specs.Maps.{ascending, including}
+use Rattle.maps.specs.Maps.{ascending, lookup, ceiling, including}
+use Rattle.maps.specs.Places.{Under, Over, Hit, Miss}
 use Rattle.maps.proofs.Maps.{ascending_including, ascending_excluding}
-use Rattle.maps.specs.Places.{Hit, Miss}
+use Rattle.maps.proofs.Sorted.{hit_lookup, miss_lookup, hit_including, miss_including, hit_excluding, miss_excluding, ceiling_here, ceiling_none}
 use Rattle.ordered.specs.declared.slots.Slots.{Slots}
-use Rattle.ordered.specs.Tables.{items, room, Put, Removed, RestKept}
-use Rattle.ordered.proofs.Puts.{put_hit, put_miss, put_full, removed_hit, removed_miss}
+use Rattle.ordered.specs.Tables.{room, Put, Removed, RestKept}
 
 -- what was kept since the search was kept since before it
-pub kept_since : {E : Type 0} (s m u : Slots E) → m ≡ s → RestKept m u → RestKept s u
-kept_since {E} s m u e r = subst (λ (a : Slots E). RestKept a u) e r
+pub kept_since : {E : Type 0} {s m u : Slots E} → m ≡ s → RestKept m u → RestKept s u
+kept_since {E} {u = u} e r = subst (λ (a : Slots E). RestKept a u) e r
 
-pub all_kept : {E : Type 0} (s m : Slots E) → m ≡ s → RestKept s m
-all_kept {E} s m e = record { rest = ap (λ (x : Slots E). drop m.len x.slots.now) e; slots = ap room e }
+pub all_kept : {E : Type 0} {s m : Slots E} → m ≡ s → RestKept s m
+all_kept {E} {m = m} e = record { rest = ap (λ (x : Slots E). drop m.len x.slots.now) e; slots = ap room e }
 
-module _ {E K : Type 0} (before : K → K → Bool) (key : E → K) (lawful : Lawful before) (s m : Slots E) (same : m ≡ s) (fits : s.len ≤ length s.slots.now) where
-  -- the change of the elements since the search is one of those before it
-  since : (u : Slots E) (f : List E → List E) (P : List E → Type 0) → items u ≡ f (items m) → P (f (items s)) → P (items u)
-  since u f P e h = subst P (sym (e ∙ ap (λ x. f (items x)) same)) h
+-- the key at the place that a search found
+pub key_there : {E K : Type 0} (before : K → K → Bool) (key : E → K) → Lawful before → (xs : List E) (n i : ℕ) (k : K) (o : Option E) → length xs ≡ n → i ≤ n → Under before key xs k i → Over before key xs k i n → o ≡ slice_get xs i → option_map key o ≡ ceiling before key xs k
+key_there before key lawful xs n i k o long le u v e = ap (option_map key) e ∙ elim (slice_get_cases xs i).1 [
+  | inl (x, l, at, there) ↦ ap (option_map key) at ∙ sym (ceiling_here before key lawful xs i k x l u (v i x (omega arith) (omega arith)) ∙ ap (λ y. Some (key y)) there)
+  | inr (past, at) ↦ ap (option_map key) at ∙ sym (ceiling_none before key lawful xs i k past u)
+]
 
-  module _ (x : E) (k : K) (of : k ≡ key x) (i : ℕ) where
-    at_key : (P : K → Type 0) → P k → P (key x)
-    at_key P h = subst P of h
+module _ {E K : Type 0} {before : K → K → Bool} {key : E → K} (lawful : Lawful before) where
+  -- the element at the place that a search found
+  pub hit_get : (xs : List E) (i : ℕ) (k : K) → Hit before key xs k i → slice_get xs i ≡ lookup before key xs k
+  hit_get [] i k h = let w = h.within in absurd (let z : ⊥ = omega arith in z)
+  hit_get (y ∷ ys) i k h = slice_get-get_or (y ∷ ys) i y h.within ∙ sym (hit_lookup before key lawful (y ∷ ys) i k y h)
 
-    pub replaced : (u : Slots E) → Hit before key (items s) k i → items u ≡ set (items m) i x → Put before key (items s) (items u) (room s) x true
-    replaced u h e =
-        since u (λ xs. set xs i x) (λ (ys : List E). Put before key (items s) ys (room s) x true) e
-        (put_hit before key lawful (items s) x i (room s) (at_key (λ (c : K). Hit before key (items s) c i) h))
+  hit_some : (xs : List E) (i : ℕ) (k : K) → Hit before key xs k i → is_some (lookup before key xs k) ≡ true
+  hit_some [] i k h = let w = h.within in absurd (let z : ⊥ = omega arith in z)
+  hit_some (y ∷ ys) i k h = ap is_some (hit_lookup before key lawful (y ∷ ys) i k y h)
 
-    miss : Miss before key (items s) k i → Miss before key (items s) (key x) i
-    miss h = at_key (λ (c : K). Miss before key (items s) c i) h
+  -- an element in the place of the one of its key
+  pub put_hit : (xs ys : List E) (x : E) (k : K) (i n : ℕ) → k ≡ key x → Hit before key xs k i → ys ≡ set xs i x → Put before key xs ys n x true
+  put_hit xs ys x k i n of h e =
+      let there = subst (λ (c : K). Hit before key xs c i) of h in
+      record {
+        done = sym (ap (λ b. b || nat_lt (length xs) n) (hit_some xs i (key x) there));
+        gives = e ∙ sym (hit_including before key lawful xs i x there);
+      }
 
-    long : length (items s) ≡ s.len
-    long = length-take-le s.len s.slots.now fits
+  -- an element at its place, where there is room
+  pub put_miss : (xs ys : List E) (x : E) (k : K) (i n : ℕ) (r : Bool) → ascending before key xs ≡ true → k ≡ key x → Miss before key xs k i → r ≡ nat_lt (length xs) n → (r ≡ true → ys ≡ insert xs i x) → (r ≡ false → ys ≡ xs) → Put before key xs ys n x r
+  put_miss xs ys x k i n r up of h d added kept = record {
+    done = d ∙ sym (ap (λ o. is_some o || nat_lt (length xs) n) (miss_lookup before key lawful xs i (key x) up absent));
+    gives = either r added kept;
+  }
+    where
+      absent : Miss before key xs (key x) i
+      absent = subst (λ (c : K). Miss before key xs c i) of h
 
-    pub added : (u : Slots E) → ascending before key (items s) ≡ true → Miss before key (items s) k i → m.len < length m.slots.now → items u ≡ insert (items m) i x → Put before key (items s) (items u) (room s) x true
-    added u up h r e =
-        let a = ap (λ t. t.len) same in
-        let b = ap room same in
-        let c = long in
-        since u (λ xs. insert xs i x) (λ (ys : List E). Put before key (items s) ys (room s) x true) e
-        (put_miss before key lawful (items s) x i (room s) up (miss h) (omega arith))
+      either : (b : Bool) → (b ≡ true → ys ≡ insert xs i x) → (b ≡ false → ys ≡ xs) → ys ≡ cond b (including before key xs x) xs
+      either true p q = p refl ∙ sym (miss_including before key lawful xs i x absent)
+      either false p q = q refl
 
-    pub refused : ascending before key (items s) ≡ true → Miss before key (items s) k i → length m.slots.now ≤ m.len → Put before key (items s) (items m) (room s) x false
-    refused up h r =
-        let a = ap (λ t. t.len) same in
-        let b = ap room same in
-        let c = long in
-        subst (λ (ys : List E). Put before key (items s) ys (room s) x false) (sym (ap items same))
-        (put_full before key lawful (items s) x i (room s) up (miss h) (omega arith))
+  pub removed_hit : (xs ys : List E) (k : K) (i : ℕ) → Hit before key xs k i → ys ≡ remove xs i → Removed before key xs ys k true
+  removed_hit xs ys k i h e = record { done = sym (hit_some xs i k h); gives = e ∙ sym (hit_excluding before key lawful xs i k h) }
 
-  pub taken_out : (u : Slots E) (k : K) (i : ℕ) → Hit before key (items s) k i → items u ≡ remove (items m) i → Removed before key (items s) (items u) k true
-  taken_out u k i h e =
-      since u (λ xs. remove xs i) (λ (ys : List E). Removed before key (items s) ys k true) e (removed_hit before key lawful (items s) k i h)
+  pub removed_miss : (xs ys : List E) (k : K) (i : ℕ) → ascending before key xs ≡ true → Miss before key xs k i → ys ≡ xs → Removed before key xs ys k false
+  removed_miss xs ys k i up h e = record {
+    done = sym (ap is_some (miss_lookup before key lawful xs i k up h));
+    gives = e ∙ sym (miss_excluding before key lawful xs i k h);
+  }
 
-  pub not_there : (k : K) (i : ℕ) → ascending before key (items s) ≡ true → Miss before key (items s) k i → Removed before key (items s) (items m) k false
-  not_there k i up h =
-      subst (λ (ys : List E). Removed before key (items s) ys k false) (sym (ap items same)) (removed_miss before key lawful (items s) k i up h)
-
--- what was put or taken out leaves the elements in order
-module _ {E K : Type 0} (before : K → K → Bool) (key : E → K) (lawful : Lawful before) (xs ys : List E) (up : ascending before key xs ≡ true) where
-  pub put_rises : (n : ℕ) (x : E) (r : Bool) → Put before key xs ys n x r → ascending before key ys ≡ true
-  put_rises n x r h = ap (ascending before key) h.gives ∙ either r
+  -- what was put or taken out leaves the elements in order
+  pub put_rises : (xs ys : List E) (n : ℕ) (x : E) (r : Bool) → Put before key xs ys n x r → ascending before key xs ≡ true → ascending before key ys ≡ true
+  put_rises xs ys n x r h up = ap (ascending before key) h.gives ∙ either r
     where
       either : (b : Bool) → ascending before key (cond b (including before key xs x) xs) ≡ true
       either true = ascending_including before key lawful xs x up
       either false = up
 
-  pub removal_rises : (k : K) (r : Bool) → Removed before key xs ys k r → ascending before key ys ≡ true
-  removal_rises k r h = ap (ascending before key) h.gives ∙ ascending_excluding before key lawful xs k up
+  pub removal_rises : (xs ys : List E) (k : K) (r : Bool) → Removed before key xs ys k r → ascending before key xs ≡ true → ascending before key ys ≡ true
+  removal_rises xs ys k r h up = ap (ascending before key) h.gives ∙ ascending_excluding before key lawful xs k up
+
+  pub hit_rises : (xs ys : List E) (x : E) (k : K) (i : ℕ) → k ≡ key x → Hit before key xs k i → ys ≡ set xs i x → ascending before key xs ≡ true → ascending before key ys ≡ true
+  hit_rises xs ys x k i of h e up = put_rises xs ys 0 x true (put_hit xs ys x k i 0 of h e) up
+
+  pub miss_rises : (xs ys : List E) (x : E) (k : K) (i n : ℕ) (r : Bool) → ascending before key xs ≡ true → k ≡ key x → Miss before key xs k i → r ≡ nat_lt (length xs) n → (r ≡ true → ys ≡ insert xs i x) → (r ≡ false → ys ≡ xs) → ascending before key ys ≡ true
+  miss_rises xs ys x k i n r up of h d added kept = put_rises xs ys n x r (put_miss xs ys x k i n r up of h d added kept) up
+
+  pub without_rises : (xs ys : List E) (k : K) (i : ℕ) → Hit before key xs k i → ys ≡ remove xs i → ascending before key xs ≡ true → ascending before key ys ≡ true
+  without_rises xs ys k i h e up = removal_rises xs ys k true (removed_hit xs ys k i h e) up

@@ -1,9 +1,13 @@
 -- The two steps of a search by halves over rising keys.
-use Rattle.std.proofs.Common.{◌≡◌, ℕ, ◌+◌, ◌<◌, ◌≤◌, Bool, true, false, List, length, get_or, take, sym, ap, ◌∙◌, subst, ⊎_elim, arith}
-use Rattle.std.proofs.lemmas.List.{get_or_default, get_or-take, length-take-le}
+use Rattle.std.proofs.Common.{◌≡◌, ℕ, ◌+◌, ◌<◌, ◌≤◌, Bool, true, false, List, length, get_or, sym, ap, ◌∙◌, subst, ⊎_elim, arith}
+use Rattle.std.proofs.lemmas.List.{get_or_default, get_or-take}
 use Rattle.std.proofs.lemmas.Bool.{cases_eq, cases_Bool, both_ways}
 use Rattle.maps.specs.Orders.{Lawful}
-use Rattle.maps.specs.Places.{Ascends, Under, Over, Hit, Miss}
+use Rattle.maps.specs.Maps.{ascending}
+use Rattle.maps.specs.Places.{Ascends, Under, Over}
+use Rattle.maps.proofs.Sorted.{ascends_front}
+use Rattle.ordered.specs.declared.slots.Slots.{Slots}
+use Rattle.ordered.specs.Tables.{items, room}
 
 module _ {E K : Type 0} (before : K → K → Bool) (key : E → K) (lawful : Lawful before)
     (xs : List E) (n : ℕ) (fits : n ≤ length xs) (rising : Ascends before key xs n) (k : K) (m : ℕ) (within : m < n) (e : E) where
@@ -27,32 +31,12 @@ module _ {E K : Type 0} (before : K → K → Bool) (key : E → K) (lawful : La
       (cases_Bool (before (key (get_or xs i d)) k)))
       (cases_eq i m)
 
--- What a search leaves, over the first n elements.
-module _ {E K : Type 0} (before : K → K → Bool) (key : E → K) (lawful : Lawful before)
-    (xs : List E) (n : ℕ) (fits : n ≤ length xs) (k : K) (r : ℕ) (under : Under before key xs k r) (over : Over before key xs k r n) where
-  long : length (take n xs) ≡ n
-  long = length-take-le n xs fits
-
-  under_front : r ≤ n → Under before key (take n xs) k r
-  under_front le i d l = ap (λ x. before (key x) k) (get_or-take n xs i d (omega arith)) ∙ under i d l
-
-  pub hit : (e : E) → r < n → before k (key (get_or xs r e)) ≡ false → Hit before key (take n xs) k r
-  hit e l lo = record {
-    within = let q = long in omega arith;
-    under = under_front (omega arith);
-    is = λ d. let w : r < length xs = omega arith in ap key (get_or-take n xs r d l ∙ get_or_default xs r d e w) ∙ lawful.total (key (get_or xs r e)) k (over r e (omega arith) l) lo;
-  }
-
-  pub miss_here : (e : E) → r < n → before k (key (get_or xs r e)) ≡ true → Miss before key (take n xs) k r
-  miss_here e l hi = record {
-    within = let q = long in omega arith;
-    under = under_front (omega arith);
-    past = λ d h. let w : r < length xs = omega arith in ap (λ x. before k (key x)) (get_or-take n xs r d l ∙ get_or_default xs r d e w) ∙ hi;
-  }
-
-  pub miss_end : r ≤ n → n ≤ r → Miss before key (take n xs) k r
-  miss_end le ge = record {
-    within = let q = long in omega arith;
-    under = under_front le;
-    past = λ d h. let q = long in absurd (let z : ⊥ = omega arith in z);
-  }
+-- What a search of the slots says of the elements in them.
+pub found_front : {E K : Type 0} (before : K → K → Bool) (key : E → K) {k : K} (s : Slots E) → ascending before key (items s) ≡ true → (r : ℕ) → r ≤ s.len
+    → (s.len ≤ room s → Ascends before key s.slots.now s.len → Under before key s.slots.now k r × Over before key s.slots.now k r s.len)
+    → Under before key (items s) k r × Over before key (items s) k r s.len
+found_front before key {k} s up r le h =
+    let found = h s.fits (ascends_front before key s.slots.now s.len s.fits up) in (
+      λ i d l. ap (λ x. before (key x) k) (get_or-take s.len s.slots.now i d (omega arith)) ∙ found.0 i d l,
+      λ i d l u. ap (λ x. before (key x) k) (get_or-take s.len s.slots.now i d u) ∙ found.1 i d l u,
+    )

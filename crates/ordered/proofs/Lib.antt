@@ -1,5 +1,5 @@
 pub mod Changes
 pub mod Halves
-pub mod Lookups
-pub mod Puts
+pub mod Laws
 pub mod Shifts
+pub mod Whole

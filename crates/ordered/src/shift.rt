@@ -1,5 +1,5 @@
 // Elements put into slots and taken out of them, one place at a time.
-ghost use Rattle.std.specs.Prelude.{◌≡◌, ℕ, ◌+◌, ◌-◌, ◌<◌, ◌≤◌, length, take, drop, slice_set};
+ghost use Rattle.std.specs.Prelude.{◌≡◌, ℕ, ◌+◌, ◌-◌, ◌<◌, ◌≤◌, length, take, drop};
 ghost use Rattle.std.specs.List.{insert, remove};
 
 // Puts `entry` at `place`, after moving what stands from there on to the right.
@@ -21,14 +21,4 @@ pub(crate) fn remove_at<E: Copy>(slots: &mut [E], len: usize, place: usize)
     ensures rest { drop (len - 1) slots.new ≡ drop (len - 1) slots.old }
 {
     slots.copy_within(place + 1..len, place);
-}
-
-// Puts `entry` in the place of what stands at `place`.
-pub(crate) fn replace_at<E: Copy>(slots: &mut [E], len: usize, place: usize, entry: E)
-    requires fits { len ≤ length slots.old }
-    requires within { place < len }
-    ensures items { take len slots.new ≡ slice_set (take len slots.old) place entry }
-    ensures rest { drop len slots.new ≡ drop len slots.old }
-{
-    slots[place] = entry;
 }

@@ -1,6 +1,38 @@
 // Slots that a caller lends, the first of which hold elements.
+ghost use Rattle.std.specs.Prelude.{◌≤◌, length};
+
+// A list of fixed room over lent slots: its elements fit them.
 #[derive(Drop)]
 pub struct Slots<'a, E> {
     pub slots: &'a mut [E],
     pub len: usize,
+    ghost fits: { len ≤ length slots.now },
+}
+
+impl<E> Slots<'_, E> {
+    ghost use Rattle.std.specs.Prelude.{◌≡◌, []};
+    ghost use Rattle.ordered.specs.Tables.{items, room};
+
+    // A list over `slots` that holds nothing, whatever they have in them.
+    pub fn new<'b>(slots: &'b mut [E]) -> Slots<'b, E>
+        ensures empty { items result ≡ [] }
+        ensures room { room result ≡ length slots.old }
+    {
+        Slots { slots, len: 0 }
+    }
+
+    pub fn len(&mut self) -> usize
+        ensures value { result ≡ length (items self.old) }
+        ensures same { self.new ≡ self.old }
+    {
+        self.len
+    }
+
+    // How many elements there is room for, those that are held included.
+    pub fn room(&mut self) -> usize
+        ensures value { result ≡ room self.old }
+        ensures same { self.new ≡ self.old }
+    {
+        self.slots.len()
+    }
 }
