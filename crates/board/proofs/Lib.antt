@@ -1,5 +1,4 @@
 pub mod Adds
 pub mod Boards
-pub mod Refused
 pub mod Trains
 pub mod Strikes

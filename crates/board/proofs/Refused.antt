@@ -1,15 +1,11 @@
 -- When a board is turned, by the table of its refusals.
-use Rattle.std.proofs.Common.{◌≡◌, ℕ, ◌*◌, ◌<◌, ◌≤◌, Bool, true, false, not, ◌||◌, ltb, List, Some, None, sym, refl, ap, ◌∙◌, subst}
-use denote.Struct.Props.{props}
+use Rattle.std.proofs.Common.{◌≡◌, ℕ, ◌*◌, ◌<◌, ◌≤◌, Bool, true, false, not, ◌||◌, ltb, List, Some, None, sym, refl, ap, ◌∙◌}
 use Rattle.std.proofs.lemmas.Bool.{cond-true, cond-false, lt-ltb, le-ltb}
 use Rattle.forms.specs.Bytes.{provided}
 use Rattle.forms.specs.Forms.{is_tiploc}
 use Rattle.cif.specs.declared.refusal.Refusal.TheVariants.{TooFewSlots}
 use Rattle.cif.specs.Refusals.{uppermost, fault_at}
-use Rattle.ordered.specs.declared.ordered.Ordered.{Ordered}
 use Rattle.running.proofs.Forces.{some_is, none_some}
-use Rattle.board.specs.declared.line.Line.{Line}
-use Rattle.board.specs.declared.display.Board.{Board, fits-type, rising-type}
 use Rattle.board.specs.Turning.{turn_lines}
 
 pub provided_is : {X : Type 0} (b : Bool) (x y : X) → Some x ≡ provided b y → (b ≡ true) × (x ≡ y)
@@ -25,12 +21,3 @@ module _ (station : List ℕ) (day slots capacity : ℕ) (named : is_tiploc stat
 
   pub none_told : 2 * capacity ≤ slots → uppermost (turn_lines station day slots capacity) ≡ None
   none_told l = cond-false (not (is_tiploc station) || ltb 36524 day) _ _ first_line ∙ cond-false (ltb slots (2 * capacity)) _ _ (le-ltb slots (2 * capacity) l)
-
--- a board with the lines that it had is the board that it was
-pub same_board : (s : Board) (x : Ordered Line) (f : fits-type x s.station s.day) (r : rising-type x s.station s.day f) → x ≡ s.lines → ◌≡◌ {A = Board} (record { lines = x; station = s.station; day = s.day; fits = f; rising = r }) s
-same_board s x f r e =
-    let F : IsProp (fits-type s.lines s.station s.day) = hlevel props in
-    let R : IsProp (rising-type s.lines s.station s.day s.fits) = hlevel props in
-    subst (λ (y : Ordered Line). (g : fits-type y s.station s.day) (q : rising-type y s.station s.day g) → ◌≡◌ {A = Board} (record { lines = y; station = s.station; day = s.day; fits = g; rising = q }) s) (sym e)
-    (λ g q. ap (λ u. record { lines = s.lines; station = s.station; day = s.day; fits = u; rising = q }) (F g s.fits) ∙ ap (λ v. record { lines = s.lines; station = s.station; day = s.day; fits = s.fits; rising = v }) (R q s.rising))
-    f r

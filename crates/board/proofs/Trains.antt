@@ -40,9 +40,6 @@ module _ (m : List Record) (station : List ℕ) (day uid : ℕ) (xs : List Line)
   pub trained_none : ((l : Line) → IsLine m station day l → l.key.uid ≡ uid → ⊥) → Trained m station day uid xs xs
   trained_none none = record { only = λ l o. inl o; kept = λ l o. o; every = λ l i e. absurd (none l i e); few = omega arith }
 
-  pub no_candidate : ((s : Record) → Candidate m uid day s → ⊥) → (l : Line) → IsLine m station day l → l.key.uid ≡ uid → ⊥
-  no_candidate none l i e = none i.schedule (subst (λ (u : ℕ). Candidate m u day i.schedule) e i.force.candidate)
-
   in_force_is : (r : Record) → InForce m uid day r → (l : Line) → (i : IsLine m station day l) → l.key.uid ≡ uid → i.schedule ≡ r
   in_force_is r f l i e = one m uid day i.schedule r (subst (λ (u : ℕ). InForce m u day i.schedule) e i.force) f
 

@@ -1,13 +1,12 @@
 // The lines of one train.
 ghost use Rattle.std.specs.Prelude.{◌≡◌, ℕ, ◌+◌, ◌*◌, ◌<◌, ◌≤◌, Bool, true, false, List, length, take};
-ghost use Rattle.ordered.specs.Tables.{items, room, InOrder};
+ghost use Rattle.ordered.specs.Tables.{items, room};
 ghost use Rattle.schedule.specs.Records.{is_at, visits};
 ghost use Rattle.board.specs.declared.line.Line.{Line};
-ghost use Rattle.board.specs.Lines.{line_before, line_key, no_call, call_at, line_at, BoardOf};
-ghost use Rattle.running.specs.Running.{InForce};
-ghost use Rattle.timetable.specs.Timetables.{IsMap};
-ghost use Rattle.board.specs.Filling.{Added, Fresh, Trained, UpTo};
+ghost use Rattle.board.specs.Lines.{no_call, call_at, line_at, BoardOf};
+ghost use Rattle.board.specs.Filling.{Added, Fresh, Trained};
 
+use crate::display::StationDay;
 use crate::line::{Line, LineKey};
 use forms::letters::Stp;
 use ordered::ordered::Ordered;
@@ -15,7 +14,6 @@ use running::force::in_force;
 use schedule::check::is_at;
 use schedule::key::Key;
 use schedule::record::Record;
-use schedule::schedule::Schedule;
 use timetable::Timetable;
 
 // The line of the call at a place, if it has one.
@@ -50,10 +48,8 @@ fn line_at(plain: &Record, place: u8, station: &[u8; 7]) -> Option<Line>
 fn add_call(lines: &mut Ordered<'_, Line>, plain: &Record, place: u8, station: &[u8; 7])
     requires place { place < 48 }
     requires station { is_at station.now no_call ≡ false }
-    requires order { InOrder line_before line_key lines.old.inner }
     requires room { is_at station.now (call_at plain.now place) ≡ true → length (items lines.old.inner) < room lines.old.inner }
     ensures added { (xs : List Line) → Added station.now plain.now place xs (items lines.old.inner) → Fresh xs plain.now.key.uid → Added station.now plain.now (place + 1) xs (items lines.new.inner) }
-    ensures order { InOrder line_before line_key lines.new.inner }
     ensures room { room lines.new.inner ≡ room lines.old.inner }
 {
     if let Some(line) = line_at(plain, place, station) {
@@ -65,11 +61,9 @@ fn add_call(lines: &mut Ordered<'_, Line>, plain: &Record, place: u8, station: &
 pub(crate) fn add_calls(lines: &mut Ordered<'_, Line>, plain: &Record, station: &[u8; 7])
     requires count { plain.now.count ≤ 48 }
     requires station { is_at station.now no_call ≡ false }
-    requires order { InOrder line_before line_key lines.old.inner }
     requires room { length (items lines.old.inner) + visits station.now (take plain.now.count plain.now.calls) ≤ room lines.old.inner }
     requires fresh { Fresh (items lines.old.inner) plain.now.key.uid }
     ensures added { Added station.now plain.now plain.now.count (items lines.old.inner) (items lines.new.inner) }
-    ensures order { InOrder line_before line_key lines.new.inner }
     ensures room { room lines.new.inner ≡ room lines.old.inner }
 {
     for place in 0..plain.count {
@@ -82,25 +76,21 @@ fn add_train<T: Timetable>(
     timetable: &mut T,
     lines: &mut Ordered<'_, Line>,
     uid: u32,
-    station: &[u8; 7],
-    day: u16,
-    place: &mut Schedule,
+    shown: &StationDay,
 )
-    requires order { InOrder line_before line_key lines.old.inner }
     requires room { length (items lines.old.inner) + 2 ≤ room lines.old.inner }
     requires fresh { Fresh (items lines.old.inner) uid }
-    ensures trained { Trained (T.Timetable.map timetable.old) station.now day uid (items lines.old.inner) (items lines.new.inner) }
-    ensures order { InOrder line_before line_key lines.new.inner }
+    ensures trained { Trained (T.Timetable.map timetable.old) shown.now.station shown.now.day uid (items lines.old.inner) (items lines.new.inner) }
     ensures room { room lines.new.inner ≡ room lines.old.inner }
     ensures same { timetable.new ≡ timetable.old }
 {
-    if !in_force(timetable, uid, day, place) {
+    let Some(schedule) = in_force(timetable, uid, shown.day) else {
         return;
-    }
-    let plain = place.to_record();
+    };
+    let plain = schedule.to_record();
     match plain.key.stp {
         Stp::Cancellation => {}
-        _ => add_calls(lines, &plain, station),
+        _ => add_calls(lines, &plain, &shown.station),
     }
 }
 
@@ -108,14 +98,11 @@ fn add_train<T: Timetable>(
 pub(crate) fn set_lines<T: Timetable>(
     timetable: &mut T,
     lines: &mut Ordered<'_, Line>,
-    station: &[u8; 7],
-    day: u16,
-    place: &mut Schedule,
+    shown: &StationDay,
 )
     requires room { 2 * length (T.Timetable.map timetable.old) ≤ room lines.old.inner }
-    ensures board { BoardOf (T.Timetable.map timetable.old) station.now day (items lines.new.inner) }
+    ensures board { BoardOf (T.Timetable.map timetable.old) shown.now.station shown.now.day (items lines.new.inner) }
     ensures few { length (items lines.new.inner) ≤ 2 * length (T.Timetable.map timetable.old) }
-    ensures order { InOrder line_before line_key lines.new.inner }
     ensures room { room lines.new.inner ≡ room lines.old.inner }
     ensures same { timetable.new ≡ timetable.old }
 {
@@ -126,7 +113,7 @@ pub(crate) fn set_lines<T: Timetable>(
         from: 0,
         stp: Stp::Cancellation,
     }) {
-        add_train(timetable, lines, key.uid, station, day, place);
+        add_train(timetable, lines, key.uid, shown);
         uid = key.uid + 1;
     }
 }

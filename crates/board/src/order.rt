@@ -8,16 +8,14 @@ use ordered::keys::{KeyOrder, Keyed};
 impl KeyOrder for LineKey {
     ghost before = { line_before };
 
-    ghost irreflexive = { λ x. line_irreflexive x };
+    ghost irreflexive = { line_irreflexive };
 
-    ghost transitive = { λ x y z. line_transitive x y z };
+    ghost transitive = { line_transitive };
 
-    ghost total = { λ x y. line_total x y };
+    ghost total = { line_total };
 
     fn is_before(&self, other: &LineKey) -> bool {
-        self.minute < other.minute
-            || self.minute == other.minute
-                && (self.uid < other.uid || self.uid == other.uid && self.place < other.place)
+        self < other
     }
 }
 

@@ -4,30 +4,39 @@ ghost use Rattle.cif.specs.Refusals.{uppermost, fault_of};
 ghost use Rattle.ordered.specs.Tables.{items, room};
 ghost use Rattle.board.specs.declared.line.Line.{Line};
 ghost use Rattle.board.specs.Lines.{BoardOf};
-ghost use Rattle.board.specs.Turning.{turn_lines};
+ghost use Rattle.board.specs.Turning.{shown_for, turn_lines};
 
-use crate::display::Board;
+use crate::display::{Board, StationDay};
 use crate::fill::set_lines;
 use crate::line::Line;
+use calendar::LAST_DAY;
 use cif::refusal::{ColumnFault, Refusal};
 use forms::places::tiploc;
 use ordered::ordered::Ordered;
-use schedule::schedule::Schedule;
 use timetable::{Store, Timetable};
+
+impl StationDay {
+    // The station and day that are asked for, where there are such.
+    fn asked(station: &[u8], day: u32) -> Option<StationDay>
+        ensures { result ≡ shown_for station.now day }
+    {
+        let station = tiploc(station)?;
+        match u16::try_from(day) {
+            Ok(day) if day <= LAST_DAY => Some(StationDay { station, day }),
+            _ => None,
+        }
+    }
+}
 
 impl Board<'_> {
     // A board with no station and no lines.
     pub fn new<'b>(slots: &'b mut [Line]) -> Board<'b>
-        ensures station { result.station ≡ None }
+        ensures shown { result.shown ≡ None }
         ensures lines { items result.lines.inner ≡ [] }
         ensures slots { room result.lines.inner ≡ length slots.old }
     {
         let lines = Ordered::new(slots);
-        Board {
-            lines,
-            station: None,
-            day: 0,
-        }
+        Board { lines, shown: None }
     }
 
     // The line at a place counted from 0.
@@ -35,11 +44,7 @@ impl Board<'_> {
         ensures line { MatchOption result (length (items self.old.lines.inner) ≤ place) (λ l. (place < length (items self.old.lines.inner)) × ((d : Line) → l ≡ slice_index_or (items self.old.lines.inner) place d)) }
         ensures same { self.new ≡ self.old }
     {
-        if place < self.lines.inner.len {
-            Some(self.lines.inner.slots[place])
-        } else {
-            None
-        }
+        self.lines.nth(place)
     }
 
     // Sets the station and day, and the lines to those that the store's map gives for them.
@@ -52,23 +57,16 @@ impl Board<'_> {
         ensures told { fault_of result ≡ uppermost (turn_lines station.now day (room self.old.lines.inner) (S.Timetable.capacity store.old)) }
         ensures board { is_ok result ≡ true → BoardOf (S.Timetable.map store.old) station.now day (items self.new.lines.inner) }
         ensures few { is_ok result ≡ true → length (items self.new.lines.inner) ≤ 2 * length (S.Timetable.map store.old) }
-        ensures set { is_ok result ≡ true → (self.new.station ≡ Some station.now) × (self.new.day ≡ day) }
+        ensures set { is_ok result ≡ true → self.new.shown ≡ Some (record { station = station.now; day = day }) }
         ensures unchanged { is_ok result ≡ false → self.new ≡ self.old }
         ensures same { store.new ≡ store.old }
     {
-        let Some(code) = tiploc(station) else {
-            return Err(Refusal::NoSuchBoard.at(0));
-        };
-        if day > 36_524 {
-            return Err(Refusal::NoSuchBoard.at(0));
-        }
+        let shown = StationDay::asked(station, day).ok_or(Refusal::NoSuchBoard.at(0))?;
         if self.lines.room() < 2 * store.capacity() {
             return Err(Refusal::TooFewSlots.at(0));
         }
-        let mut place = Schedule::blank();
-        set_lines(store, &mut self.lines, &code, day as u16, &mut place);
-        self.station = Some(code);
-        self.day = day as u16;
+        set_lines(store, &mut self.lines, &shown);
+        self.shown = Some(shown);
         Ok(())
     }
 }

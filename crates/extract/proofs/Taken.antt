@@ -100,8 +100,3 @@ terminus_row s i row l at e read = in_place s i row Running Between at IsTerminu
 -- what was told by one rule was told by an equal one
 pub told_by : {X E : Type 0} (after : X) (rule given : Result X E) (r : Result (Unit {0}) E) → rule ≡ given → Told after given r → Told after rule r
 told_by {X} {E} after rule given r e h = subst (λ (x : Result X E). Told after x r) (sym e) h
-
--- there is still room where the stage after reads as the one before
-pub room_kept : (b : Bool) (old next new : Stage) (n : ℕ) → is_reading old ≡ is_reading next → new ≡ cond b next old → has_room old n ≡ true → has_room new n ≡ true
-room_kept true old next new n same e h = ap (λ x. has_room x n) e ∙ (ap (λ (x : Bool). cond x (ltb n 32) (leb n 32)) (sym same) ∙ h)
-room_kept false old next new n same e h = ap (λ x. has_room x n) e ∙ h

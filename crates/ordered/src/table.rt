@@ -1,5 +1,5 @@
 // What an ordered table can be asked, and how it changes.
-ghost use Rattle.std.specs.Prelude.{◌≡◌, ℕ, ◌+◌, ◌-◌, ◌<◌, ◌≤◌, Bool, true, false, List, [], length, is_ok};
+ghost use Rattle.std.specs.Prelude.{◌≡◌, ℕ, ◌+◌, ◌-◌, ◌<◌, ◌≤◌, Bool, true, false, List, [], length, is_ok, slice_get};
 ghost use Rattle.maps.specs.Maps.{lookup, ceiling};
 ghost use Rattle.maps.specs.Places.{Hit, Miss};
 ghost use Rattle.ordered.specs.Tables.{items, room, Put, Removed, RestKept};
@@ -36,6 +36,14 @@ impl<E: Keyed> Ordered<'_, E> {
         ensures same { self.new ≡ self.old }
     {
         self.inner.room()
+    }
+
+    // The element at a place that counts from 0, in the order of the keys.
+    pub fn nth(&mut self, n: usize) -> Option<E>
+        ensures value { result ≡ slice_get (items self.old.inner) n }
+        ensures same { self.new ≡ self.old }
+    {
+        self.inner.get(n)
     }
 
     // The element of a key.

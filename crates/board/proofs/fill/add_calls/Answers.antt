@@ -5,28 +5,25 @@ use Rattle.board.proofs.Adds.{added_none, room_for}
 use Rattle.board.proofs.fill.add_calls.Goals as goal
 
 pub loop-place-init : goal.loop-place-init
-loop-place-init c = (added_none _ _ _, c.requires.order, refl)
+loop-place-init c = (added_none _ _ _, refl)
 
 pub add_call-requires : goal.add_call-requires
 add_call-requires c = record {
   place = (let k = c.requires.count in omega arith);
   station = c.requires.station;
-  order = c.loop-place.invariant.1;
-  room = λ at. subst (λ (n : ℕ). length (items c.loop-place.lines.inner) < n) (sym c.loop-place.invariant.2)
+  room = λ at. subst (λ (n : ℕ). length (items c.loop-place.lines.inner) < n) (sym c.loop-place.invariant.1)
       (room_for c.args.station.now c.args.plain.now c.loop-place.place (room c.args.lines.now.inner) c.args.plain.now.count (items c.args.lines.now.inner) (items c.loop-place.lines.inner) c.loop-place.invariant.0 c.requires.station (omega arith) c.requires.room at);
 }
 
 pub loop-place-preserved : goal.loop-place-preserved
 loop-place-preserved c = (
   c.add_call.ensures.added (items c.args.lines.now.inner) c.loop-place.invariant.0 c.requires.fresh,
-  c.add_call.ensures.order,
-  c.add_call.ensures.room ∙ c.loop-place.invariant.2,
+  c.add_call.ensures.room ∙ c.loop-place.invariant.1,
 )
 
 pub returns : goal.returns
 returns c = record {
   added = (let e : c.loop-place.place ≡ c.args.plain.now.count = (let k = c.loop-place.auto.place-end in let t = c.loop-place-test.false in omega arith) in
       subst (λ (n : ℕ). Added c.args.station.now c.args.plain.now n (items c.args.lines.now.inner) (items c.loop-place.lines.inner)) e c.loop-place.invariant.0);
-  order = c.loop-place.invariant.1;
-  room = c.loop-place.invariant.2;
+  room = c.loop-place.invariant.1;
 }

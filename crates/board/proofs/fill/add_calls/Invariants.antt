@@ -1,11 +1,9 @@
 use Rattle.std.proofs.Common.{◌≡◌}
-use Rattle.ordered.specs.Tables.{items, room, InOrder}
-use Rattle.board.specs.Lines.{line_before, line_key}
+use Rattle.ordered.specs.Tables.{items, room}
 use Rattle.board.specs.Filling.{Added}
 use Rattle.board.proofs.fill.add_calls.Given as goal
 
 abbrev pub invariant-loop-place : goal.invariant-loop-place
 invariant-loop-place l =
     Added l.station l.plain l.place (items l.initial.lines.inner) (items l.lines.inner)
-    × InOrder line_before line_key l.lines.inner
     × (room l.lines.inner ≡ room l.initial.lines.inner)

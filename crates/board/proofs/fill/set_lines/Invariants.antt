@@ -1,15 +1,13 @@
 use Rattle.std.proofs.Common.{◌≡◌, ◌+◌, ◌*◌, ◌≤◌, length}
-use Rattle.ordered.specs.Tables.{items, room, InOrder}
+use Rattle.ordered.specs.Tables.{items, room}
 use Rattle.timetable.proofs.Nexts.{left}
-use Rattle.board.specs.Lines.{line_before, line_key}
 use Rattle.board.specs.Filling.{UpTo}
 use Rattle.board.proofs.Boards.{first_of}
 use Rattle.board.proofs.fill.set_lines.Given as goal
 
 abbrev pub invariant-loop-key : goal.invariant-loop-key
 invariant-loop-key g l =
-    UpTo (g.T.Timetable.map l.initial.timetable) l.station l.day l.uid (items l.lines.inner)
-    × InOrder line_before line_key l.lines.inner
+    UpTo (g.T.Timetable.map l.initial.timetable) l.shown.station l.shown.day l.uid (items l.lines.inner)
     × (room l.lines.inner ≡ room l.initial.lines.inner)
     × (l.timetable ≡ l.initial.timetable)
     × (length (items l.lines.inner) + 2 * left (g.T.Timetable.map l.initial.timetable) (first_of l.uid) ≤ 2 * length (g.T.Timetable.map l.initial.timetable))
