@@ -1,8 +1,11 @@
 -- A row: 80 printable bytes, of which the first two are one of twelve identities.
-use Rattle.std.specs.Prelude.{ℕ, ◌+◌, Bool, cond, not, ◌&&◌, List, [], ◌∷◌, length, Some, None, Ok, Err, codes, Option, Result, ◌==◌, nat_le, slice_index}
+use Rattle.std.specs.Prelude.{◌≡◌, ℕ, ◌+◌, Bool, cond, not, ◌&&◌, List, [], ◌∷◌, length, Some, None, Ok, Err, codes, Option, Result, MatchResult, ◌==◌, nat_le, slice_index}
 use Rattle.forms.specs.Bytes.{byte_at}
 use Rattle.cif.specs.declared.refusal.Refusal.TheVariants.{RowLength, BadByte, UnknownIdentity}
 use Rattle.cif.specs.declared.refusal.ColumnFault.{ColumnFault}
+use Rattle.std.specs.List.{position_from}
+use Rattle.std.specs.Option.{option_map}
+use Rattle.cif.specs.declared.identity.UnknownIdentity.{UnknownIdentity as NoIdentity}
 use Rattle.cif.specs.declared.identity.Identity.{Identity}
 use Rattle.cif.specs.declared.identity.Identity.TheVariants.{Header, BasicSchedule, BasicExtra, Origin, Intermediate, Terminus, ChangeEnRoute, LocationInsert, LocationAmend, LocationDelete, Association, Trailer}
 use Rattle.cif.specs.Refusals.{Line, line, missing, fault_at}
@@ -31,6 +34,13 @@ abbrev pub identity_of : ℕ → ℕ → Option Identity
 identity_of a b =
     named (Header ∷ BasicSchedule ∷ BasicExtra ∷ Origin ∷ Intermediate ∷ Terminus ∷ ChangeEnRoute ∷ LocationInsert ∷ LocationAmend ∷ LocationDelete ∷ Association ∷ Trailer ∷ []) a b
 
+-- the result is the identity that two letters name, or the letters that name none
+abbrev pub Names : List ℕ → Result Identity NoIdentity → Type 0
+Names letters r =
+    MatchResult r
+    (λ i. identity_of (slice_index letters 0) (slice_index letters 1) ≡ Some i)
+    (λ e. (identity_of (slice_index letters 0) (slice_index letters 1) ≡ None) × (e.0 ≡ letters))
+
 -- the identity at columns 1 and 2
 abbrev pub identity_in : List ℕ → Option Identity
 identity_in row = identity_of (byte_at 1 row) (byte_at 2 row)
@@ -39,13 +49,9 @@ identity_in row = identity_of (byte_at 1 row) (byte_at 2 row)
 abbrev pub is_printable : ℕ → Bool
 is_printable c = nat_le 32 c && nat_le c 126
 
--- the column of the first byte that is not printable, from a column on
-abbrev pub bad_from : ℕ → List ℕ → Option ℕ
-bad_from column [] = None
-bad_from column (c ∷ cs) = cond (is_printable c) (bad_from (column + 1) cs) (Some column)
-
+-- the column of the first byte that is not printable
 abbrev pub first_bad : List ℕ → Option ℕ
-first_bad row = bad_from 1 row
+first_bad row = option_map (λ i. i + 1) (position_from (λ c. not (is_printable c)) 0 row)
 
 -- a column, or 0 where there is none
 abbrev pub column_or0 : Option ℕ → ℕ

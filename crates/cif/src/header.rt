@@ -3,9 +3,8 @@ ghost use Rattle.std.specs.Prelude.{◌≡◌};
 ghost use Rattle.cif.specs.Fields.{header_in};
 
 use crate::content::Header;
-use crate::refusal::{ColumnFault, Refusal};
+use crate::refusal::ColumnFault;
 use crate::row::Row;
-use forms::letters::Coverage;
 use forms::text::{last_reference, reference};
 
 impl Row {
@@ -13,9 +12,9 @@ impl Row {
     pub fn header(&self) -> Result<Header, ColumnFault>
         ensures { result ≡ header_in self.now.bytes }
     {
-        let current = reference(self.columns(33, 39)).ok_or(Refusal::BadForm.at(33))?;
-        let last = last_reference(self.columns(40, 46)).ok_or(Refusal::BadForm.at(40))?;
-        let coverage = Coverage::from_letter(self.byte(47) as char).ok_or(Refusal::BadForm.at(47))?;
+        let current = self.field(33, 39, reference)?;
+        let last = self.field(40, 46, last_reference)?;
+        let coverage = self.letter(47)?;
         Ok(Header {
             current,
             last,

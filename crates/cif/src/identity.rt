@@ -1,6 +1,6 @@
 // What a row is, by its first two columns.
 ghost use Rattle.std.specs.Prelude.{◌≡◌};
-ghost use Rattle.cif.specs.Rows.{letters_of, identity_of};
+ghost use Rattle.cif.specs.Rows.{letters_of, Names};
 
 #[derive(Clone, Copy, Debug, PartialEq, Eq)]
 pub enum Identity {
@@ -18,31 +18,39 @@ pub enum Identity {
     Trailer,
 }
 
-impl Identity {
-    pub fn from_letters(first: u8, second: u8) -> Option<Self>
-        ensures { result ≡ identity_of first second }
-    {
-        match (first as char, second as char) {
-            ('H', 'D') => Some(Identity::Header),
-            ('B', 'S') => Some(Identity::BasicSchedule),
-            ('B', 'X') => Some(Identity::BasicExtra),
-            ('L', 'O') => Some(Identity::Origin),
-            ('L', 'I') => Some(Identity::Intermediate),
-            ('L', 'T') => Some(Identity::Terminus),
-            ('C', 'R') => Some(Identity::ChangeEnRoute),
-            ('T', 'I') => Some(Identity::LocationInsert),
-            ('T', 'A') => Some(Identity::LocationAmend),
-            ('T', 'D') => Some(Identity::LocationDelete),
-            ('A', 'A') => Some(Identity::Association),
-            ('Z', 'Z') => Some(Identity::Trailer),
-            _ => None,
+// Two letters that no row begins with.
+#[derive(Clone, Copy, Debug, PartialEq, Eq)]
+pub struct UnknownIdentity(pub [u8; 2]);
+
+impl TryFrom<[u8; 2]> for Identity {
+    type Error = UnknownIdentity;
+
+    ghost try_from_gives = { Names };
+
+    fn try_from(letters: [u8; 2]) -> Result<Self, UnknownIdentity> {
+        match &letters {
+            b"HD" => Ok(Identity::Header),
+            b"BS" => Ok(Identity::BasicSchedule),
+            b"BX" => Ok(Identity::BasicExtra),
+            b"LO" => Ok(Identity::Origin),
+            b"LI" => Ok(Identity::Intermediate),
+            b"LT" => Ok(Identity::Terminus),
+            b"CR" => Ok(Identity::ChangeEnRoute),
+            b"TI" => Ok(Identity::LocationInsert),
+            b"TA" => Ok(Identity::LocationAmend),
+            b"TD" => Ok(Identity::LocationDelete),
+            b"AA" => Ok(Identity::Association),
+            b"ZZ" => Ok(Identity::Trailer),
+            _ => Err(UnknownIdentity(letters)),
         }
     }
+}
 
-    pub fn letters(self) -> [u8; 2]
-        ensures { result ≡ letters_of self }
-    {
-        match self {
+impl From<Identity> for [u8; 2] {
+    ghost from_gives = { λ identity letters. letters ≡ letters_of identity };
+
+    fn from(identity: Identity) -> [u8; 2] {
+        match identity {
             Identity::Header => *b"HD",
             Identity::BasicSchedule => *b"BS",
             Identity::BasicExtra => *b"BX",

@@ -14,7 +14,7 @@ impl Row {
     fn tiploc_field(&self) -> Result<[u8; 7], ColumnFault>
         ensures { result ≡ formed 3 (tiploc_of self.now.bytes) }
     {
-        tiploc(self.columns(3, 9)).ok_or(Refusal::BadForm.at(3))
+        self.field(3, 9, tiploc)
     }
 
     fn suffix_field(&self) -> Result<u8, ColumnFault>
@@ -27,18 +27,14 @@ impl Row {
         requires { (1 ≤ first) × (first ≤ 77) }
         ensures { result ≡ formed first (time_at first self.now.bytes) }
     {
-        time(self.columns(first as usize, first as usize + 3)).ok_or(Refusal::BadForm.at(first))
+        self.field(first, first + 3, time)
     }
 
     fn platform_field(&self, first: u8) -> Result<[u8; 3], ColumnFault>
         requires { (1 ≤ first) × (first ≤ 78) }
         ensures { result ≡ formed first (platform_at first self.now.bytes) }
     {
-        text(
-            Alphabet::Labels,
-            self.columns(first as usize, first as usize + 2),
-        )
-        .ok_or(Refusal::BadForm.at(first))
+        self.field(first, first + 2, |bytes| text(Alphabet::Labels, bytes))
     }
 
     // The fields of an LO row.

@@ -2,6 +2,9 @@
 ghost use Rattle.std.specs.Prelude.{◌≡◌};
 ghost use Rattle.cif.specs.Refusals.{number_of, fault_at, in_row, raised};
 
+use std::error::Error;
+use std::fmt;
+
 // What is refused, by its number.
 #[derive(Clone, Copy, Debug, PartialEq, Eq)]
 pub enum Refusal {
@@ -40,6 +43,30 @@ impl Refusal {
     }
 }
 
+impl fmt::Display for Refusal {
+    fn fmt<W: fmt::Write>(&self, f: &mut fmt::Formatter<W>) -> fmt::Result {
+        f.write_str(match self {
+            Refusal::RowLength => "the row is not 80 bytes",
+            Refusal::BadByte => "a byte is outside 32 to 126",
+            Refusal::UnknownIdentity => "the identity is not known",
+            Refusal::OutOfPlace => "the row or call does not fit the stage",
+            Refusal::BadForm => "a field lacks its form",
+            Refusal::EndsBeforeStart => "it runs from a later day than it runs to",
+            Refusal::ReferenceMismatch => "the file references do not fit",
+            Refusal::KeyPresent => "the schedule is there already",
+            Refusal::KeyAbsent => "the schedule is not there",
+            Refusal::TooManyCalls => "a 49th kept call",
+            Refusal::TooManyVisits => "a third kept call at one TIPLOC",
+            Refusal::TooManyRows => "too many rows or transactions",
+            Refusal::StoreFull => "the store is full",
+            Refusal::NoSuchBoard => "no such station or day",
+            Refusal::TooFewSlots => "too few line slots",
+        })
+    }
+}
+
+impl Error for Refusal {}
+
 // A refusal and the column that it is about, or 0.
 #[derive(Clone, Copy, Debug, PartialEq, Eq)]
 pub struct ColumnFault {
@@ -67,8 +94,5 @@ impl From<(ColumnFault, [u8; 2])> for RowFault {
 pub fn beside<T, E, P: Drop>(r: Result<T, E>, place: P) -> Result<T, (E, P)>
     ensures { result ≡ raised (λ e. (e, place)) r }
 {
-    match r {
-        Ok(x) => Ok(x),
-        Err(e) => Err((e, place)),
-    }
+    r.map_err(|e| (e, place))
 }

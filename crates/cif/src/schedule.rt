@@ -5,7 +5,7 @@ ghost use Rattle.cif.specs.Fields.{running_in, change_in, runs_on, schedule_in, 
 use crate::content::{BasicSchedule, Change, Running};
 use crate::refusal::{ColumnFault, Refusal};
 use crate::row::Row;
-use forms::letters::{Stp, Transaction};
+use forms::letters::Transaction;
 use forms::numbers::{date, uid};
 use forms::text::{Alphabet, days_run, text};
 
@@ -26,9 +26,9 @@ impl Row {
     fn running(&self) -> Result<Running, ColumnFault>
         ensures { result ≡ running_in self.now.bytes }
     {
-        let to = date(self.columns(16, 21)).ok_or(Refusal::BadForm.at(16))?;
-        let days = days_run(self.columns(22, 28)).ok_or(Refusal::BadForm.at(22))?;
-        let train = text(Alphabet::Labels, self.columns(33, 36)).ok_or(Refusal::BadForm.at(33))?;
+        let to = self.field(16, 21, date)?;
+        let days = self.field(22, 28, days_run)?;
+        let train = self.field(33, 36, |bytes| text(Alphabet::Labels, bytes))?;
         Ok(Running { to, days, train })
     }
 
@@ -46,13 +46,11 @@ impl Row {
     pub fn basic_schedule(&self) -> Result<BasicSchedule, ColumnFault>
         ensures { result ≡ schedule_in self.now.bytes }
     {
-        let transaction = Transaction::from_letter(self.byte(3) as char).ok_or(Refusal::BadForm.at(
-            3,
-        ))?;
-        let uid = uid(self.columns(4, 9)).ok_or(Refusal::BadForm.at(4))?;
-        let from = date(self.columns(10, 15)).ok_or(Refusal::BadForm.at(10))?;
+        let transaction = self.letter(3)?;
+        let uid = self.field(4, 9, uid)?;
+        let from = self.field(10, 15, date)?;
         let change = self.change(transaction)?;
-        let stp = Stp::from_letter(self.byte(80) as char).ok_or(Refusal::BadForm.at(80))?;
+        let stp = self.letter(80)?;
         if !change.runs_on(from) {
             return Err(Refusal::EndsBeforeStart.at(16));
         }
@@ -68,6 +66,6 @@ impl Row {
     pub fn operator(&self) -> Result<[u8; 2], ColumnFault>
         ensures { result ≡ operator_in self.now.bytes }
     {
-        text(Alphabet::Labels, self.columns(12, 13)).ok_or(Refusal::BadForm.at(12))
+        self.field(12, 13, |bytes| text(Alphabet::Labels, bytes))
     }
 }

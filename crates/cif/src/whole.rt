@@ -1,7 +1,9 @@
 // Whether bytes are a row at all.
-ghost use Rattle.std.specs.Prelude.{◌≡◌, ℕ, ◌+◌, ◌-◌, ◌<◌, ◌≤◌, length, Some, None, Ok, Err, MatchResult};
+ghost use Rattle.std.specs.Prelude.{◌≡◌, ℕ, ◌+◌, ◌-◌, ◌<◌, ◌≤◌, length, Some, None, Ok, Err, Option, Result, MatchResult};
 ghost use Rattle.forms.specs.Bytes.{columns, byte_at};
-ghost use Rattle.cif.specs.Refusals.{uppermost, fault_of};
+ghost use Rattle.std.specs.Fn.{FnOnceReturnsAt};
+ghost use Rattle.std.specs.Result.{result_ok};
+ghost use Rattle.cif.specs.Refusals.{uppermost, fault_of, formed};
 ghost use Rattle.cif.specs.Rows.{is_printable, first_bad, row_lines, whole_in};
 
 use crate::identity::Identity;
@@ -19,14 +21,8 @@ fn first_bad(bytes: &[u8]) -> Option<u8>
     requires { length bytes.now ≡ 80 }
     ensures { result ≡ first_bad bytes.now }
 {
-    let mut column: u8 = 1;
-    for b in bytes {
-        if !is_printable(*b) {
-            return Some(column);
-        }
-        column += 1;
-    }
-    None
+    let index = bytes.iter().position(|b| !is_printable(*b))?;
+    Some(index as u8 + 1)
 }
 
 impl Row {
@@ -41,9 +37,9 @@ impl Row {
         if let Some(column) = first_bad(&bytes) {
             return Err(Refusal::BadByte.at(column));
         }
-        match Identity::from_letters(bytes[0], bytes[1]) {
-            Some(identity) => Ok(Row { bytes, identity }),
-            None => Err(Refusal::UnknownIdentity.at(1)),
+        match Identity::try_from([bytes[0], bytes[1]]) {
+            Ok(identity) => Ok(Row { bytes, identity }),
+            Err(_) => Err(Refusal::UnknownIdentity.at(1)),
         }
     }
 
@@ -67,5 +63,31 @@ impl Row {
         ensures { result ≡ byte_at column self.now.bytes }
     {
         self.bytes[column - 1]
+    }
+
+    // What a reader makes of the bytes at the columns first to last, or the fault that they lack their form.
+    pub(crate) fn field<T, F: FnOnce(&[u8]) -> Option<T>>(
+        &self,
+        first: u8,
+        last: u8,
+        read: F,
+    ) -> Result<T, ColumnFault>
+        requires within { (1 ≤ first) × ((first ≤ last) × (last ≤ 80)) }
+        requires callable { F.IsAlwaysCallable read }
+        ensures { (found : Option T) × FnOnceReturnsAt F.FnOnce read (columns first last self.now.bytes) found × (result ≡ formed first found) }
+    {
+        read(self.columns(first as usize, last as usize)).ok_or(Refusal::BadForm.at(first))
+    }
+
+    // What the letter at a column stands for, or the fault that it stands for nothing.
+    pub(crate) fn letter<L: TryFrom<char>>(&self, column: u8) -> Result<L, ColumnFault>
+    where
+        L::Error: Drop,
+        requires { (1 ≤ column) × (column ≤ 80) }
+        ensures { (found : Result L L.Error) × L.try_from_gives (byte_at column self.now.bytes) found × (result ≡ formed column (result_ok found)) }
+    {
+        L::try_from(self.byte(column as usize) as char)
+            .ok()
+            .ok_or(Refusal::BadForm.at(column))
     }
 }

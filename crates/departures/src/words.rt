@@ -235,7 +235,7 @@ impl Display for Words<'_> {
             Content::Intermediate(at) => write_location(f, "LI call at", at, true, true),
             Content::Terminus(at) => write_location(f, "LT destination", at, true, false),
             Content::Unread(identity) => {
-                let letters = identity.letters();
+                let letters = <[u8; 2]>::from(*identity);
                 let name = Text(&letters);
                 let words = unread(*identity);
                 write!(f, "{name} {words}: no field is read")

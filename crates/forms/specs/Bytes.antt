@@ -1,5 +1,5 @@
 -- Bytes, and the alphabets that the fields of a row are written in.
-use Rattle.std.specs.Prelude.{ℕ, ◌-◌, Bool, true, cond, ◌&&◌, ◌||◌, List, [], ◌∷◌, take, drop, Some, None, Option, ◌==◌, nat_le, slice_index}
+use Rattle.std.specs.Prelude.{ℕ, ◌-◌, Bool, cond, ◌&&◌, ◌||◌, List, take, drop, Some, None, Option, ◌==◌, nat_le, slice_index}
 use Rattle.forms.specs.declared.text.Alphabet.{Alphabet}
 use Rattle.forms.specs.declared.text.Alphabet.TheVariants.{Letters, Digits, Flags, Names, Labels, Blanks}
 
@@ -34,11 +34,6 @@ allows Flags c = c == 48 || c == 49
 allows Names c = is_name c
 allows Labels c = is_name c || is_blank c
 allows Blanks c = is_blank c
-
--- every byte passes a test
-abbrev pub every : (ℕ → Bool) → List ℕ → Bool
-every test [] = true
-every test (c ∷ cs) = test c && every test cs
 
 -- the reading that a second step makes of the first one's value
 abbrev pub and_then : {X Y : Type 0} → Option X → (X → Option Y) → Option Y

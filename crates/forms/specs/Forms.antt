@@ -1,13 +1,14 @@
 -- The forms of the fields: what bytes mean, or none where they lack the form.
-use Rattle.std.specs.Prelude.{ℕ, ◌+◌, ◌-◌, ◌*◌, Bool, true, cond, ◌&&◌, ◌||◌, List, [], ◌∷◌, map, length, Some, None, Option, ◌==◌, nat_eq, nat_lt, slice_index}
+use Rattle.std.specs.Prelude.{ℕ, ◌+◌, ◌-◌, ◌*◌, Bool, cond, ◌&&◌, ◌||◌, List, [], ◌∷◌, map, length, drop, Some, None, Option, ◌==◌, nat_eq, nat_lt, slice_index}
+use Rattle.std.specs.List.{list_all, prefix_len}
 use Rattle.calendar.specs.Calendar.{dated}
 use Rattle.forms.specs.declared.text.Alphabet.{Alphabet}
 use Rattle.forms.specs.declared.text.Alphabet.TheVariants.{Flags, Names}
-use Rattle.forms.specs.Bytes.{columns, is_digit, is_letter, is_name, is_blank, allows, every, and_then, provided}
+use Rattle.forms.specs.Bytes.{columns, is_digit, is_letter, is_name, is_blank, allows, and_then, provided}
 
 -- so many bytes of an alphabet, as they stand
 abbrev pub text_in : ℕ → Alphabet → List ℕ → Option (List ℕ)
-text_in width alphabet cs = provided (length cs == width && every (allows alphabet) cs) cs
+text_in width alphabet cs = provided (length cs == width && list_all (allows alphabet) cs) cs
 
 -- the number that digits write, after those that wrote n
 abbrev pub number_after : ℕ → List ℕ → Option ℕ
@@ -42,8 +43,7 @@ days_run_in cs = and_then (text_in 7 Flags cs) (λ flags. Some (map (λ c. nat_e
 
 -- letters and digits, and from the first byte that is neither on only blanks
 abbrev pub names_then_blanks : List ℕ → Bool
-names_then_blanks [] = true
-names_then_blanks (c ∷ cs) = cond (is_name c) (names_then_blanks cs) (every is_blank (c ∷ cs))
+names_then_blanks cs = list_all is_blank (drop (prefix_len is_name cs) cs)
 
 -- a TIPLOC: seven bytes, letters and digits, of which there is at least one, and after them only blanks
 abbrev pub is_tiploc : List ℕ → Bool
@@ -73,4 +73,4 @@ reference_in cs = text_in 7 Names cs
 
 -- the last file reference: seven names, or seven blanks
 abbrev pub last_reference_in : List ℕ → Option (List ℕ)
-last_reference_in cs = provided (length cs == 7 && (every is_name cs || every is_blank cs)) cs
+last_reference_in cs = provided (length cs == 7 && (list_all is_name cs || list_all is_blank cs)) cs

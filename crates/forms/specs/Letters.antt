@@ -1,5 +1,7 @@
 -- Fields of one letter, and the letter of each case.
-use Rattle.std.specs.Prelude.{ℕ, cond, List, [], ◌∷◌, Some, None, Option, ◌==◌}
+use Rattle.std.specs.Prelude.{ℕ, cond, List, [], ◌∷◌, Some, None, Option, Result, ◌==◌}
+use Rattle.std.specs.Option.{ok_or}
+use Rattle.forms.specs.declared.letters.UnknownLetter.{UnknownLetter}
 use Rattle.forms.specs.declared.letters.Stp.{Stp}
 use Rattle.forms.specs.declared.letters.Stp.TheVariants.{Cancellation, ShortTerm, Overlay, Permanent}
 use Rattle.forms.specs.declared.letters.Transaction.{Transaction}
@@ -38,3 +40,7 @@ transaction_in c = chosen transaction_letter (New ∷ Revise ∷ Delete ∷ []) 
 
 abbrev pub coverage_in : ℕ → Option Coverage
 coverage_in c = chosen coverage_letter (Full ∷ Update ∷ []) c
+
+-- the case that a letter names, or the letter that names none
+abbrev pub named_by : {X : Type 0} → Option X → ℕ → Result X UnknownLetter
+named_by found letter = ok_or found (record { 0 = letter })

@@ -1,6 +1,21 @@
 // Fields of one letter.
-ghost use Rattle.std.specs.Prelude.{◌≡◌};
-ghost use Rattle.forms.specs.Letters.{stp_letter, transaction_letter, coverage_letter, stp_in, transaction_in, coverage_in};
+ghost use Rattle.std.specs.Prelude.{◌≡◌, Some};
+ghost use Rattle.forms.specs.Letters.{stp_letter, transaction_letter, coverage_letter, stp_in, transaction_in, coverage_in, named_by};
+
+use std::error::Error;
+use std::fmt;
+
+// A letter that stands for nothing in its field.
+#[derive(Clone, Copy, Debug, PartialEq, Eq)]
+pub struct UnknownLetter(pub char);
+
+impl fmt::Display for UnknownLetter {
+    fn fmt<W: fmt::Write>(&self, f: &mut fmt::Formatter<W>) -> fmt::Result {
+        write!(f, "the letter {} stands for nothing here", self.0)
+    }
+}
+
+impl Error for UnknownLetter {}
 
 // What kind of schedule it is, by its STP letter.
 #[derive(Clone, Copy, Debug, PartialEq, Eq, PartialOrd, Ord)]
@@ -11,21 +26,26 @@ pub enum Stp {
     Permanent = b'P' as isize,
 }
 
-impl Stp {
-    pub fn from_letter(letter: char) -> Option<Self>
-        ensures { result ≡ stp_in letter }
-    {
+impl TryFrom<char> for Stp {
+    type Error = UnknownLetter;
+
+    ghost try_from_gives = { λ letter r. r ≡ named_by (stp_in letter) letter };
+
+    fn try_from(letter: char) -> Result<Self, UnknownLetter> {
         match letter {
-            'C' => Some(Stp::Cancellation),
-            'N' => Some(Stp::ShortTerm),
-            'O' => Some(Stp::Overlay),
-            'P' => Some(Stp::Permanent),
-            _ => None,
+            'C' => Ok(Stp::Cancellation),
+            'N' => Ok(Stp::ShortTerm),
+            'O' => Ok(Stp::Overlay),
+            'P' => Ok(Stp::Permanent),
+            _ => Err(UnknownLetter(letter)),
         }
     }
+}
 
+impl Stp {
     pub fn letter(self) -> u8
-        ensures { result ≡ stp_letter self }
+        ensures value { result ≡ stp_letter self }
+        ensures named { stp_in result ≡ Some self }
     {
         self as u8
     }
@@ -39,20 +59,25 @@ pub enum Transaction {
     Delete = b'D' as isize,
 }
 
-impl Transaction {
-    pub fn from_letter(letter: char) -> Option<Self>
-        ensures { result ≡ transaction_in letter }
-    {
+impl TryFrom<char> for Transaction {
+    type Error = UnknownLetter;
+
+    ghost try_from_gives = { λ letter r. r ≡ named_by (transaction_in letter) letter };
+
+    fn try_from(letter: char) -> Result<Self, UnknownLetter> {
         match letter {
-            'N' => Some(Transaction::New),
-            'R' => Some(Transaction::Revise),
-            'D' => Some(Transaction::Delete),
-            _ => None,
+            'N' => Ok(Transaction::New),
+            'R' => Ok(Transaction::Revise),
+            'D' => Ok(Transaction::Delete),
+            _ => Err(UnknownLetter(letter)),
         }
     }
+}
 
+impl Transaction {
     pub fn letter(self) -> u8
-        ensures { result ≡ transaction_letter self }
+        ensures value { result ≡ transaction_letter self }
+        ensures named { transaction_in result ≡ Some self }
     {
         self as u8
     }
@@ -65,19 +90,24 @@ pub enum Coverage {
     Update = b'U' as isize,
 }
 
-impl Coverage {
-    pub fn from_letter(letter: char) -> Option<Self>
-        ensures { result ≡ coverage_in letter }
-    {
+impl TryFrom<char> for Coverage {
+    type Error = UnknownLetter;
+
+    ghost try_from_gives = { λ letter r. r ≡ named_by (coverage_in letter) letter };
+
+    fn try_from(letter: char) -> Result<Self, UnknownLetter> {
         match letter {
-            'F' => Some(Coverage::Full),
-            'U' => Some(Coverage::Update),
-            _ => None,
+            'F' => Ok(Coverage::Full),
+            'U' => Ok(Coverage::Update),
+            _ => Err(UnknownLetter(letter)),
         }
     }
+}
 
+impl Coverage {
     pub fn letter(self) -> u8
-        ensures { result ≡ coverage_letter self }
+        ensures value { result ≡ coverage_letter self }
+        ensures named { coverage_in result ≡ Some self }
     {
         self as u8
     }

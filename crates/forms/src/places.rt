@@ -9,12 +9,10 @@ use crate::text::Alphabet;
 fn names_then_blanks(bytes: &[u8]) -> bool
     ensures { result ≡ names_then_blanks bytes.now }
 {
-    for (i, b) in bytes.iter().enumerate() {
-        if !Alphabet::Names.has(*b) {
-            return Alphabet::Blanks.has_all(&bytes[i..]);
-        }
-    }
-    true
+    bytes
+        .iter()
+        .skip_while(|b| Alphabet::Names.has(**b))
+        .all(|b| Alphabet::Blanks.has(*b))
 }
 
 // A TIPLOC: one to seven letters or digits, then blanks up to seven bytes.

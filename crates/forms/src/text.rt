@@ -1,6 +1,7 @@
 // Fields that are text of a given width.
 ghost use Rattle.std.specs.Prelude.{◌≡◌, Bool};
-ghost use Rattle.forms.specs.Bytes.{allows, every};
+ghost use Rattle.std.specs.List.{list_all};
+ghost use Rattle.forms.specs.Bytes.{allows};
 ghost use Rattle.forms.specs.Forms.{text_in, days_run_in, reference_in, last_reference_in};
 
 // The bytes that a text may have.
@@ -30,14 +31,9 @@ impl Alphabet {
 
     // Whether all bytes are of this alphabet.
     pub(crate) fn has_all(self, bytes: &[u8]) -> bool
-        ensures { result ≡ every (allows self) bytes.now }
+        ensures { result ≡ list_all (allows self) bytes.now }
     {
-        for b in bytes {
-            if !self.has(*b) {
-                return false;
-            }
-        }
-        true
+        bytes.iter().all(|b| self.has(*b))
     }
 }
 
@@ -73,9 +69,5 @@ pub fn days_run(bytes: &[u8]) -> Option<[bool; 7]>
     ensures { result ≡ days_run_in bytes.now }
 {
     let flags: [u8; 7] = text(Alphabet::Flags, bytes)?;
-    let mut days = [false; 7];
-    for (day, flag) in flags.iter().enumerate() {
-        days[day] = *flag == b'1';
-    }
-    Some(days)
+    Some(flags.map(|flag| flag == b'1'))
 }

@@ -1,18 +1,20 @@
-use Rattle.std.proofs.Common.{sym, ◌∙◌, arith}
-use Rattle.std.proofs.lemmas.List.{at_drop_all}
-use Rattle.cif.specs.Rows.{bad_from}
-use Rattle.cif.proofs.Steps.{bad_more, bad_here}
+use Rattle.std.proofs.Common.{ℕ, ◌+◌, not, rules, ap, ◌∙◌}
+use Rattle.std.specs.Option.{option_map}
+use Rattle.std.proofs.lemmas.Iterator.{YieldsList-from_slice}
+use Rattle.std.proofs.lemmas.Iterator.Adapters.{position_from-zero}
+use Rattle.std.proofs.lemmas.Iterator.Search.{position_from_yields_List}
+use Rattle.cif.specs.Rows.{is_printable}
 use Rattle.cif.proofs.whole.first_bad.Goals as goal
 
-pub returns-then-not-is_printable : goal.returns-then-not-is_printable
-returns-then-not-is_printable c =
-    sym (bad_here c.loop-b.column c.loop-b.b-index c.args.bytes.now c.loop-b-test.true c.if-not-is_printable.ensures) ∙ c.loop-b.invariant.0
-
-pub loop-b-preserved : goal.loop-b-preserved
-loop-b-preserved c = (
-  sym (bad_more c.loop-b.column c.loop-b.b-index c.args.bytes.now c.loop-b-test.true c.if-not-is_printable.ensures) ∙ c.loop-b.invariant.0,
-  omega arith,
-)
+pub returns-in_err-index : goal.returns-in_err-index
+returns-in_err-index c =
+    c.from_residual.ensures
+    ∙ ap (option_map (λ (i : ℕ). i + 1))
+    (position_from_yields_List (λ b. not (is_printable b)) _ _ _ c.in_err-index.ensures.ran (YieldsList-from_slice c.args.bytes.now cc) (λ x b q k. search rules)
+    ∙ position_from-zero (λ b. not (is_printable b)) c.args.bytes.now)
 
 pub returns : goal.returns
-returns c = sym (at_drop_all (bad_from c.loop-b.column) c.args.bytes.now c.loop-b.b-index c.loop-b-test.false) ∙ c.loop-b.invariant.0
+returns c =
+    ap (option_map (λ (i : ℕ). i + 1))
+    (position_from_yields_List (λ b. not (is_printable b)) _ _ _ c.in_ok-index.ensures.ran (YieldsList-from_slice c.args.bytes.now cc) (λ x b q k. search rules)
+    ∙ position_from-zero (λ b. not (is_printable b)) c.args.bytes.now)
