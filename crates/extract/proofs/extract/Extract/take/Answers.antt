@@ -6,7 +6,7 @@ use Rattle.extract.specs.declared.stage.Stage.TheVariants.{Between, Begun, Extra
 use Rattle.extract.specs.Stages.{is_reading, has_room}
 use Rattle.extract.specs.Seen.{seen, standing}
 use Rattle.extract.proofs.Ranges.{schedule_range}
-use Rattle.extract.proofs.Taken.{unread_row, operator_row, origin_row, intermediate_row, terminus_row, told_by, room_kept}
+use Rattle.extract.proofs.Taken.{unread_row, operator_row, origin_row, intermediate_row, terminus_row, told_by}
 use Rattle.extract.proofs.extract.Extract.take.Goals as goal
 
 pub take_schedule-requires : goal.take_schedule-requires
