@@ -1,5 +1,5 @@
 -- Counts of calls.
-use Rattle.std.proofs.Common.{◌≡◌, ℕ, List, [], None, refl, ap, cond, ◌+◌, count_by, add_comm}
+use Rattle.std.proofs.Common.{◌≡◌, ℕ, List, [], None, refl, ap, cond, count_by, add_comm}
 use Rattle.std.proofs.lemmas.List.Recursion.{is_count_by}
 use Rattle.cif.specs.declared.content.Location.{Location}
 use Rattle.schedule.specs.Records.{is_at, visits}

@@ -1,11 +1,11 @@
 // The check that makes a schedule of a record.
-ghost use Rattle.std.specs.Prelude.{◌≡◌, ◌≤◌, true, false, ◌&&◌, length, take, drop, MatchOption, nat_le};
+ghost use Rattle.std.specs.Prelude.{◌≡◌, ◌≤◌, true, false, ◌&&◌, length, take, drop, MatchResult, nat_le};
 ghost use Rattle.std.specs.Str.{bytes_eq};
 ghost use Rattle.schedule.specs.Records.{is_at, visits, few_visits, is_filler, every_call, bare_if_cancelled, is_schedule};
 
 use crate::key::Key;
 use crate::record::{CALLS, Record};
-use crate::schedule::Schedule;
+use crate::schedule::{NotASchedule, Schedule};
 use cif::content::Location;
 use forms::letters::Stp;
 
@@ -87,18 +87,22 @@ impl Record {
     }
 }
 
-impl Schedule {
-    // The schedule that a record holds, if it holds one.
-    pub fn from_record(plain: Record) -> Option<Schedule>
-        ensures { MatchOption result (is_schedule plain ≡ false) (λ s. (s.plain ≡ plain) × (is_schedule plain ≡ true)) }
-    {
+// The schedule that a record holds, if it holds one.
+impl TryFrom<Record> for Schedule {
+    type Error = NotASchedule;
+
+    ghost try_from_gives = { λ plain r. MatchResult r (λ s. (s.plain ≡ plain) × (is_schedule plain ≡ true)) (λ _. is_schedule plain ≡ false) };
+
+    fn try_from(plain: Record) -> Result<Schedule, NotASchedule> {
         if plain.is_schedule() {
-            Some(Schedule { plain })
+            Ok(Schedule { plain })
         } else {
-            None
+            Err(NotASchedule)
         }
     }
+}
 
+impl Schedule {
     pub fn key(&self) -> Key
         ensures { result ≡ self.now.plain.key }
     {
