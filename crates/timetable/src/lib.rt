@@ -21,7 +21,6 @@ pub trait Timetable {
     // How many keys the map has.
     fn count(&mut self) -> usize
         ensures value { result ≡ length (map self.old) }
-        ensures is_map { IsMap (map self.old) }
         ensures fits { length (map self.old) ≤ capacity self.old }
         ensures same { self.new ≡ self.old };
 
@@ -35,8 +34,10 @@ pub trait Timetable {
     // The least key that is not before a probe, which may lie past any key.
     fn not_before(&mut self, probe: Key) -> Option<Key>
         ensures value { result ≡ not_before (map self.old) probe }
-        ensures is_map { IsMap (map self.old) }
         ensures same { self.new ≡ self.old };
+
+    // The map of every timetable is in the order of its keys, and all its records are schedules.
+    ghost is_map: { (x : Self) → IsMap (map x) };
 }
 
 // A timetable that can also be changed. Its capacity never changes.
