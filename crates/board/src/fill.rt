@@ -87,7 +87,7 @@ fn add_train<T: Timetable>(
     let Some(schedule) = in_force(timetable, uid, shown.day) else {
         return;
     };
-    let plain = schedule.to_record();
+    let plain = Record::from(schedule);
     match plain.key.stp {
         Stp::Cancellation => {}
         _ => add_calls(lines, &plain, &shown.station),

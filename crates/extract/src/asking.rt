@@ -40,7 +40,7 @@ fn key_in(b: &BasicSchedule) -> Key
 pub(crate) fn is_brief(b: &BasicSchedule) -> bool
     ensures { result ≡ is_brief b.now }
 {
-    matches!(b.change, Change::Delete) || matches!(b.stp, Stp::Cancellation)
+    matches!(b.change, Change::Delete) || b.stp == Stp::Cancellation
 }
 
 impl Extract {

@@ -16,7 +16,6 @@ use cif::identity::Identity;
 use cif::refusal::{ColumnFault, Refusal};
 use cif::row::Row;
 use forms::letters::Coverage;
-use schedule::check::same_bytes;
 use schedule::schedule::Schedule;
 use schedule::transaction::Transaction;
 
@@ -24,12 +23,12 @@ use schedule::transaction::Transaction;
 fn is_mismatch(header: &Header, reference: &[u8; 7]) -> bool
     ensures { result ≡ mismatches reference.now header.now }
 {
-    let blank = same_bytes(&header.last, b"       ");
+    let blank = header.last == *b"       ";
     let suits = match header.coverage {
         Coverage::Full => blank,
         Coverage::Update => !blank,
     };
-    !same_bytes(&header.last, reference) || same_bytes(&header.last, &header.current) || !suits
+    header.last != *reference || header.last == header.current || !suits
 }
 
 impl Extract {
@@ -96,7 +95,7 @@ impl Extract {
         ensures unchanged { is_ok result ≡ false → self.new ≡ self.old }
         ensures reference { self.new.reference ≡ self.old.reference }
     {
-        if matches!(self.stage, Stage::Idle) {
+        if self.stage == Stage::Idle {
             return Err(Refusal::OutOfPlace.at(0));
         }
         *self = Extract::idle_with(self.reference);

@@ -51,7 +51,7 @@ impl Pending {
         if place >= MOST {
             return Err(Full);
         }
-        self.slots[place] = transaction.to_change();
+        self.slots[place] = transaction.into();
         self.len = place + 1;
         Ok(())
     }

@@ -25,7 +25,7 @@ fn schedule_left(change: &Change) -> Option<Schedule>
     ensures { MatchOption result (leaves change.now ≡ None) (λ s. leaves change.now ≡ Some s.plain) }
 {
     match change {
-        Change::New(plain) | Change::Revise(plain) => Schedule::from_record(*plain),
+        Change::New(plain) | Change::Revise(plain) => Schedule::try_from(*plain).ok(),
         Change::Delete(_) => None,
     }
 }

@@ -53,8 +53,8 @@ fn consider<T: Timetable>(
     if !timetable.find(key, &mut here) {
         return best;
     }
-    let old = best.map(|best| best.to_record());
-    if takes_place(&here.to_record(), day, &old) {
+    let old = best.map(Record::from);
+    if takes_place(&here.into(), day, &old) {
         Some(here)
     } else {
         best

@@ -2,30 +2,23 @@
 use Rattle.std.proofs.Common.{◌≡◌, ℕ, ◌+◌, ◌<◌, ◌≤◌, Bool, true, false, cond, leb, List, [], ◌∷◌, ◌++◌, length, get_or, take, drop, set, sym, refl, ap, ◌∙◌, subst, ⊎_elim, arith}
 use Rattle.std.proofs.lemmas.Slice.Eq.{bytes_eq-Decides}
 use Rattle.std.proofs.lemmas.List.{take_more_set, drop-set-lt, drop_more}
+use Rattle.std.proofs.lemmas.List.Elements.{All-weaker}
+use Rattle.std.proofs.lemmas.List.Folds.{list_all-append}
+use Rattle.std.proofs.lemmas.List.Sums.{sum_by_push, AllPass-from_list_all, list_all-from_AllPass}
 use Rattle.std.proofs.lemmas.Bool.{and_parts, and_from, cases_Bool, cond-false, leb-true, le-leb}
 use Rattle.cif.specs.declared.content.Location.{Location}
 use Rattle.schedule.specs.declared.record.Record.{Record}
 use Rattle.schedule.specs.Records.{is_at, visits, every_call, few_visits, is_filler, kept_calls, in_range, is_schedule, is_cancellation}
-use Rattle.schedule.proofs.Steps.{nowhere}
+use Rattle.schedule.proofs.Steps.{nowhere, visits_counted}
 
-visits_push : (t : List ℕ) (cs : List Location) (c : Location) → visits t (cs ++ c ∷ []) ≡ cond (is_at t c) (visits t cs + 1) (visits t cs)
-visits_push t [] c = refl
-visits_push t (d ∷ ds) c =
-    ap (λ (n : ℕ). cond (is_at t d) (n + 1) n) (visits_push t ds c) ∙ either (is_at t d) (is_at t c)
-  where
-    either : (a b : Bool) → cond a (cond b (visits t ds + 1) (visits t ds) + 1) (cond b (visits t ds + 1) (visits t ds)) ≡ cond b (cond a (visits t ds + 1) (visits t ds) + 1) (cond a (visits t ds + 1) (visits t ds))
-    either true true = refl
-    either true false = refl
-    either false true = refl
-    either false false = refl
+visits_push : (t : List ℕ) (cs : List Location) (c : Location) → visits t (cs ++ c ∷ []) ≡ visits t cs + cond (is_at t c) 1 0
+visits_push t cs c = visits_counted t (cs ++ c ∷ []) ∙ (sum_by_push (λ d. cond (is_at t d) 1 0) cs c ∙ sym (ap (λ n. n + cond (is_at t c) 1 0) (visits_counted t cs)))
 
 every_push : (test : Location → Bool) (cs : List Location) (c : Location) → every_call test cs ≡ true → test c ≡ true → every_call test (cs ++ c ∷ []) ≡ true
-every_push test [] c h t = and_from (test c) true t refl
-every_push test (d ∷ ds) c h t = let p = and_parts (test d) (every_call test ds) h in and_from (test d) _ p.0 (every_push test ds c p.1 t)
+every_push test cs c h t = list_all-append test cs (c ∷ []) ∙ and_from (every_call test cs) _ h (and_from (test c) true t refl)
 
 every_weaker : (strict test : Location → Bool) (cs : List Location) → ((d : Location) → strict d ≡ true → test d ≡ true) → every_call strict cs ≡ true → every_call test cs ≡ true
-every_weaker strict test [] f h = refl
-every_weaker strict test (d ∷ ds) f h = let p = and_parts (strict d) (every_call strict ds) h in and_from (test d) _ (f d p.0) (every_weaker strict test ds f p.1)
+every_weaker strict test cs f h = list_all-from_AllPass test cs (All-weaker _ _ f cs (AllPass-from_list_all strict cs h))
 
 -- no TIPLOC is visited too often where the new call's had at most one visit
 few_push : (cs : List Location) (c : Location) → few_visits cs ≡ true → visits c.tiploc cs < 2 → few_visits (cs ++ c ∷ []) ≡ true
@@ -34,18 +27,18 @@ few_push cs c h few =
     (every_weaker (λ d. leb (visits d.tiploc cs) 2) (λ d. leb (visits d.tiploc (cs ++ c ∷ [])) 2) cs still h)
     (le-leb (visits c.tiploc (cs ++ c ∷ [])) 2 (one_more c.tiploc few))
   where
+    at_most_one : (b : Bool) → cond b 1 0 ≤ 1
+    at_most_one true = omega arith
+    at_most_one false = omega arith
+
     one_more : (t : List ℕ) → visits t cs < 2 → visits t (cs ++ c ∷ []) ≤ 2
-    one_more t l = subst (λ (n : ℕ). n ≤ 2) (sym (visits_push t cs c)) (either (is_at t c))
-      where
-        either : (b : Bool) → cond b (visits t cs + 1) (visits t cs) ≤ 2
-        either true = omega arith
-        either false = omega arith
+    one_more t l = omega (arith, visits_push t cs c, at_most_one (is_at t c))
 
     still : (d : Location) → leb (visits d.tiploc cs) 2 ≡ true → leb (visits d.tiploc (cs ++ c ∷ [])) 2 ≡ true
     still d t =
         ⊎_elim
         (λ here. le-leb _ 2 (one_more d.tiploc (subst (λ (v : List ℕ). visits v cs < 2) ((bytes_eq-Decides c.tiploc d.tiploc).0 here) few)))
-        (λ there. le-leb _ 2 (subst (λ (n : ℕ). n ≤ 2) (sym (visits_push d.tiploc cs c ∙ cond-false (is_at d.tiploc c) _ _ there)) (leb-true _ 2 t)))
+        (λ there. le-leb _ 2 (omega (arith, visits_push d.tiploc cs c, cond-false {A = ℕ} (is_at d.tiploc c) 1 0 there, leb-true _ 2 t)))
         (cases_Bool (is_at d.tiploc c))
 
 module _ (r : Record) (l : Location) (valid : is_schedule r ≡ true) (runs : is_cancellation r.key.stp ≡ false) (long : length r.calls ≡ 48) (room : r.count < 48) (few : visits l.tiploc (kept_calls r) < 2) where

@@ -1,12 +1,15 @@
 -- A schedule as it is read, row by row.
-use Rattle.std.specs.Prelude.{ℕ, ◌+◌, Bool, cond, not, ◌&&◌, List, [], ◌∷◌, nat_le, slice_set}
+use Rattle.std.specs.Prelude.{◌≡◌, ℕ, ◌+◌, Bool, cond, not, ◌&&◌, List, [], ◌∷◌, nat_le, slice_set}
 use Rattle.cif.specs.declared.content.Location.{Location}
 use Rattle.cif.specs.declared.refusal.Refusal.TheVariants.{TooManyCalls, TooManyVisits}
 use Rattle.cif.specs.Refusals.{Line, line}
 use Rattle.schedule.specs.declared.key.Key.{Key}
 use Rattle.schedule.specs.declared.record.Record.{Record}
+use Rattle.schedule.specs.declared.schedule.Schedule.{Schedule}
 use Rattle.schedule.specs.declared.transaction.Change.{Change}
 use Rattle.schedule.specs.declared.transaction.Change.TheVariants.{New, Revise, Delete}
+use Rattle.schedule.specs.declared.transaction.Transaction.{Transaction}
+use Rattle.schedule.specs.declared.transaction.Transaction.TheVariants.{New as IsNew, Revise as IsRevised, Delete as IsDeleted}
 use Rattle.schedule.specs.Records.{kept_calls, visits, no_time, is_cancellation, blank_record}
 
 -- a schedule begins without calls, and with blanks for operator and destination
@@ -62,6 +65,12 @@ abbrev pub bringing : (Record → Record) → Change → Change
 bringing f (New r) = New (f r)
 bringing f (Revise r) = Revise (f r)
 bringing f (Delete k) = Delete k
+
+-- a transaction with a step taken on its schedule
+abbrev pub Brings : (Schedule → Schedule → Type 0) → Transaction → Transaction → Type 0
+Brings step (IsNew s) after = (t : Schedule) × step s t × (after ≡ IsNew t)
+Brings step (IsRevised s) after = (t : Schedule) × step s t × (after ≡ IsRevised t)
+Brings step (IsDeleted k) after = after ≡ IsDeleted k
 
 -- why a location cannot be taken into the schedule that a transaction brings
 abbrev pub bringing_lines : Change → Location → List Line

@@ -1,5 +1,6 @@
 -- What every schedule that exists has, as a test of the record that holds it.
 use Rattle.std.specs.Prelude.{ℕ, ◌+◌, Bool, true, false, cond, ◌&&◌, leb, List, [], ◌∷◌, take, drop, replicate, Some, None, Option, ◌==◌, nat_le, nat_lt}
+use Rattle.std.specs.List.{list_all}
 use Rattle.std.specs.Str.{bytes_eq}
 use Rattle.forms.specs.declared.letters.Stp.{Stp}
 use Rattle.forms.specs.declared.letters.Stp.TheVariants.{Cancellation, ShortTerm, Overlay, Permanent}
@@ -26,8 +27,7 @@ visits tiploc (c ∷ cs) = cond (is_at tiploc c) (visits tiploc cs + 1) (visits 
 
 -- every call passes a test
 abbrev pub every_call : (Location → Bool) → List Location → Bool
-every_call test [] = true
-every_call test (c ∷ cs) = test c && every_call test cs
+every_call test calls = list_all test calls
 
 -- no TIPLOC appears in more than two calls
 abbrev pub few_visits : List Location → Bool

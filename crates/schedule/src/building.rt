@@ -2,7 +2,7 @@
 ghost use Rattle.std.specs.Prelude.{◌≡◌, ◌≤◌, true, false, length, Some, None, MatchOption, MatchResult};
 ghost use Rattle.cif.specs.Refusals.{uppermost};
 ghost use Rattle.schedule.specs.Records.{in_range, visits, kept_calls};
-ghost use Rattle.schedule.specs.Building.{begun_with, with_operator, with_destination, is_kept, with_call, call_lines, bringing, bringing_lines};
+ghost use Rattle.schedule.specs.Building.{begun_with, with_operator, with_destination, is_kept, with_call, call_lines, bringing, Brings, bringing_lines};
 ghost use Rattle.schedule.specs.Transactions.{plain_of};
 
 use crate::check::visits_of;
@@ -26,24 +26,14 @@ impl Schedule {
     pub fn begun(key: Key, to: u16, days: [bool; 7], train: [u8; 4]) -> Option<Schedule>
         ensures { MatchOption result (in_range (begun_with key to days train) ≡ false) (λ s. s.plain ≡ begun_with key to days train) }
     {
-        let Record {
-            operator,
-            destination,
-            calls,
-            count,
-            ..
-        } = Schedule::blank().to_record();
         let plain = Record {
             key,
             to,
             days,
             train,
-            operator,
-            destination,
-            calls,
-            count,
+            ..Schedule::blank().into()
         };
-        Schedule::from_record(plain)
+        Schedule::try_from(plain).ok()
     }
 
     // The schedule with an operator; a cancellation stays bare.
@@ -51,9 +41,8 @@ impl Schedule {
         ensures { result.plain ≡ with_operator self.plain operator }
     {
         let mut plain = self.plain;
-        match plain.key.stp {
-            Stp::Cancellation => {}
-            _ => plain.operator = operator,
+        if plain.key.stp != Stp::Cancellation {
+            plain.operator = operator;
         }
         Schedule { plain }
     }
@@ -63,9 +52,8 @@ impl Schedule {
         ensures { result.plain ≡ with_destination self.plain destination }
     {
         let mut plain = self.plain;
-        match plain.key.stp {
-            Stp::Cancellation => {}
-            _ => plain.destination = destination,
+        if plain.key.stp != Stp::Cancellation {
+            plain.destination = destination;
         }
         Schedule { plain }
     }
@@ -75,7 +63,7 @@ impl Schedule {
         ensures { MatchResult result (λ s. (s.plain ≡ with_call self.plain location) × (uppermost (call_lines self.plain location) ≡ None)) (λ e. uppermost (call_lines self.plain location) ≡ Some e) }
     {
         let mut plain = self.plain;
-        if matches!(plain.key.stp, Stp::Cancellation) || !is_kept(&location) {
+        if plain.key.stp == Stp::Cancellation || !is_kept(&location) {
             return Ok(self);
         }
         let count = plain.count as usize;
@@ -92,28 +80,30 @@ impl Schedule {
 }
 
 impl Transaction {
+    // The transaction with a step taken on the schedule that it brings.
+    fn bringing<F: FnOnce(Schedule) -> Schedule>(self, step: F) -> Transaction
+        requires { F.IsAlwaysCallable step }
+        ensures { Brings (F.post step) self result }
+    {
+        match self {
+            Transaction::New(schedule) => Transaction::New(step(schedule)),
+            Transaction::Revise(schedule) => Transaction::Revise(step(schedule)),
+            Transaction::Delete(key) => Transaction::Delete(key),
+        }
+    }
+
     // The transaction with an operator in the schedule that it brings.
     pub fn with_operator(self, operator: [u8; 2]) -> Transaction
         ensures { plain_of result ≡ bringing (λ s. with_operator s operator) (plain_of self) }
     {
-        match self {
-            Transaction::New(schedule) => Transaction::New(schedule.with_operator(operator)),
-            Transaction::Revise(schedule) => Transaction::Revise(schedule.with_operator(operator)),
-            Transaction::Delete(key) => Transaction::Delete(key),
-        }
+        self.bringing(|schedule| schedule.with_operator(operator))
     }
 
     // The transaction with a destination in the schedule that it brings.
     pub fn with_destination(self, destination: [u8; 7]) -> Transaction
         ensures { plain_of result ≡ bringing (λ s. with_destination s destination) (plain_of self) }
     {
-        match self {
-            Transaction::New(schedule) => Transaction::New(schedule.with_destination(destination)),
-            Transaction::Revise(schedule) => Transaction::Revise(schedule.with_destination(
-                destination,
-            )),
-            Transaction::Delete(key) => Transaction::Delete(key),
-        }
+        self.bringing(|schedule| schedule.with_destination(destination))
     }
 
     // The transaction with a call more in the schedule that it brings.

@@ -1,39 +1,26 @@
 // The check that makes a schedule of a record.
-ghost use Rattle.std.specs.Prelude.{◌≡◌, ◌≤◌, true, false, ◌&&◌, length, take, drop, MatchOption, nat_le};
+ghost use Rattle.std.specs.Prelude.{◌≡◌, ◌≤◌, true, false, ◌&&◌, length, take, drop, MatchResult, nat_le};
 ghost use Rattle.std.specs.Str.{bytes_eq};
 ghost use Rattle.schedule.specs.Records.{is_at, visits, few_visits, is_filler, every_call, bare_if_cancelled, is_schedule};
 
 use crate::key::Key;
 use crate::record::{CALLS, Record};
-use crate::schedule::Schedule;
+use crate::schedule::{NotASchedule, Schedule};
 use cif::content::Location;
 use forms::letters::Stp;
-
-// Whether two texts are equal, byte by byte.
-pub fn same_bytes(a: &[u8], b: &[u8]) -> bool
-    ensures { result ≡ bytes_eq a.now b.now }
-{
-    a == b
-}
 
 // Whether a call is at a TIPLOC, whatever its suffix.
 pub fn is_at(call: &Location, tiploc: &[u8; 7]) -> bool
     ensures { result ≡ is_at tiploc.now call.now }
 {
-    same_bytes(&call.tiploc, tiploc)
+    call.tiploc == *tiploc
 }
 
 // How many of some calls are at a TIPLOC.
 pub fn visits_of(calls: &[Location], tiploc: &[u8; 7]) -> usize
     ensures { result ≡ visits tiploc.now calls.now }
 {
-    let mut n = 0;
-    for call in calls {
-        if is_at(call, tiploc) {
-            n += 1;
-        }
-    }
-    n
+    calls.iter().filter(|call| is_at(call, tiploc)).count()
 }
 
 // Whether a call's TIPLOC appears in no more than two of the calls.
@@ -47,35 +34,25 @@ fn is_seldom(call: &Location, calls: &[Location]) -> bool
 pub fn few_visits(calls: &[Location]) -> bool
     ensures { result ≡ few_visits calls.now }
 {
-    for call in calls {
-        if !is_seldom(call, calls) {
-            return false;
-        }
-    }
-    true
+    calls.iter().all(|call| is_seldom(call, calls))
 }
 
 // Whether a call is one that fills the places past the kept calls.
 fn is_filler(call: &Location) -> bool
     ensures { result ≡ is_filler call.now }
 {
-    same_bytes(&call.tiploc, b"       ")
+    call.tiploc == *b"       "
         && call.suffix == b' '
         && call.arrival.is_none()
         && call.departure.is_none()
-        && same_bytes(&call.platform, b"   ")
+        && call.platform == *b"   "
 }
 
 // Whether all calls are fillers.
 fn all_fillers(calls: &[Location]) -> bool
     ensures { result ≡ every_call is_filler calls.now }
 {
-    for call in calls {
-        if !is_filler(call) {
-            return false;
-        }
-    }
-    true
+    calls.iter().all(is_filler)
 }
 
 // Whether the first calls, so many as are counted, visit no TIPLOC too often, and the others are fillers.
@@ -90,12 +67,8 @@ impl Record {
     fn is_bare_if_cancelled(&self) -> bool
         ensures { result ≡ bare_if_cancelled self.now }
     {
-        match self.key.stp {
-            Stp::Cancellation => self.count == 0
-                && same_bytes(&self.operator, b"  ")
-                && same_bytes(&self.destination, b"       "),
-            _ => true,
-        }
+        self.key.stp != Stp::Cancellation
+            || self.count == 0 && self.operator == *b"  " && self.destination == *b"       "
     }
 
     // Whether this is the record of a schedule.
@@ -114,18 +87,22 @@ impl Record {
     }
 }
 
-impl Schedule {
-    // The schedule that a record holds, if it holds one.
-    pub fn from_record(plain: Record) -> Option<Schedule>
-        ensures { MatchOption result (is_schedule plain ≡ false) (λ s. (s.plain ≡ plain) × (is_schedule plain ≡ true)) }
-    {
+// The schedule that a record holds, if it holds one.
+impl TryFrom<Record> for Schedule {
+    type Error = NotASchedule;
+
+    ghost try_from_gives = { λ plain r. MatchResult r (λ s. (s.plain ≡ plain) × (is_schedule plain ≡ true)) (λ _. is_schedule plain ≡ false) };
+
+    fn try_from(plain: Record) -> Result<Schedule, NotASchedule> {
         if plain.is_schedule() {
-            Some(Schedule { plain })
+            Ok(Schedule { plain })
         } else {
-            None
+            Err(NotASchedule)
         }
     }
+}
 
+impl Schedule {
     pub fn key(&self) -> Key
         ensures { result ≡ self.now.plain.key }
     {

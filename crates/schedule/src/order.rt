@@ -28,27 +28,23 @@ pub fn next_in_train(key: Key) -> Key
     ensures tight { (q : Key) → key_before q result ≡ true → key_before key q ≡ false }
     ensures train { result.uid ≡ key.uid }
 {
-    let Key { uid, from, stp } = key;
-    match stp {
+    match key.stp {
         Stp::Cancellation => Key {
-            uid,
-            from,
             stp: Stp::ShortTerm,
+            ..key
         },
         Stp::ShortTerm => Key {
-            uid,
-            from,
             stp: Stp::Overlay,
+            ..key
         },
         Stp::Overlay => Key {
-            uid,
-            from,
             stp: Stp::Permanent,
+            ..key
         },
         Stp::Permanent => Key {
-            uid,
-            from: from.saturating_add(1),
+            from: key.from.saturating_add(1),
             stp: Stp::Cancellation,
+            ..key
         },
     }
 }
@@ -63,10 +59,7 @@ impl KeyOrder for Key {
     ghost total = { key_total };
 
     fn is_before(&self, other: &Key) -> bool {
-        self.uid < other.uid
-            || self.uid == other.uid
-                && (self.from < other.from
-                    || self.from == other.from && rank(self.stp) < rank(other.stp))
+        self < other
     }
 }
 

@@ -42,11 +42,17 @@ impl Schedule {
         };
         Schedule { plain }
     }
+}
 
-    // The record that holds it.
-    pub fn to_record(&self) -> Record
-        ensures { result ≡ self.now.plain }
-    {
-        self.plain
+// The record that holds a schedule.
+impl From<Schedule> for Record {
+    ghost from_gives = { λ s r. r ≡ s.plain };
+
+    fn from(schedule: Schedule) -> Record {
+        schedule.plain
     }
 }
+
+// A record that was found to be no schedule.
+#[derive(Clone, Copy, Debug, PartialEq, Eq)]
+pub struct NotASchedule;

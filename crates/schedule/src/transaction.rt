@@ -14,26 +14,25 @@ pub enum Transaction {
     Delete(Key),
 }
 
-impl Transaction {
-    // As it lies in memory.
-    pub fn to_change(self) -> Change
-        ensures value { result ≡ plain_of self }
-        ensures lawful { is_lawful result ≡ true }
-    {
-        match self {
-            Transaction::New(schedule) => Change::New(schedule.to_record()),
-            Transaction::Revise(schedule) => Change::Revise(schedule.to_record()),
-            Transaction::Delete(key) => Change::Delete(key),
-        }
-    }
-}
-
 // A transaction as it lies in memory, with the plain record of its schedule.
 #[derive(Clone, Copy, Debug, PartialEq, Eq)]
 pub enum Change {
     New(Record),
     Revise(Record),
     Delete(Key),
+}
+
+// A transaction as it lies in memory.
+impl From<Transaction> for Change {
+    ghost from_gives = { λ t c. (c ≡ plain_of t) × (is_lawful c ≡ true) };
+
+    fn from(transaction: Transaction) -> Change {
+        match transaction {
+            Transaction::New(schedule) => Change::New(schedule.into()),
+            Transaction::Revise(schedule) => Change::Revise(schedule.into()),
+            Transaction::Delete(key) => Change::Delete(key),
+        }
+    }
 }
 
 impl Change {

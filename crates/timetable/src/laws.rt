@@ -33,9 +33,9 @@ fn put_one<S: Store>(store: &mut S, plain: &Record) -> Result<(), Full>
     ensures map { is_ok result ≡ true → S.Timetable.map store.new ≡ set_if_schedule (S.Timetable.map store.old) plain.now }
     ensures capacity { S.Timetable.capacity store.new ≡ S.Timetable.capacity store.old }
 {
-    match Schedule::from_record(*plain) {
-        Some(schedule) => store.put(schedule),
-        None => Ok(()),
+    match Schedule::try_from(*plain) {
+        Ok(schedule) => store.put(schedule),
+        Err(_) => Ok(()),
     }
 }
 

@@ -36,6 +36,7 @@ pub trait Timetable {
         ensures value { result ≡ not_before (map self.old) probe }
         ensures same { self.new ≡ self.old };
 
+    // The map of every timetable is in the order of its keys, and all its records are schedules.
     ghost is_map: { (x : Self) → IsMap (map x) };
 }
 
