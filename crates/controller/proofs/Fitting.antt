@@ -23,7 +23,8 @@ use Rattle.schedule.specs.Transactions.{every_lawful}
 use Rattle.timetable.specs.Timetables.{with_schedule, IsMap}
 use Rattle.timetable.proofs.Valid.{key_lawful}
 use Rattle.overlay.specs.Overlays.{done_to, done_all}
-use Rattle.overlay.proofs.Dones.{all_map, done_push, done_count}
+use Rattle.overlay.specs.Maps.{all_map}
+use Rattle.overlay.proofs.Dones.{done_push, done_count}
 use Rattle.extract.specs.declared.stage.Stage.{Stage}
 use Rattle.extract.specs.declared.stage.Stage.TheVariants.{Between}
 use Rattle.extract.specs.Stages.{next_stage, is_reading}

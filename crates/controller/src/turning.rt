@@ -22,7 +22,7 @@ impl<S: Store> Controller<S> {
     ) -> Result<(), ExtractFault>
         ensures told { fault_of result ≡ refusal_of (ToTurn station.now day) (standing_in S.Timetable.map S.Timetable.capacity self.old) (room board.old.lines.inner) }
         ensures lines { is_ok result ≡ true → BoardOf (S.Timetable.map self.old.overlay.store) station.now day (items board.new.lines.inner) }
-        ensures set { is_ok result ≡ true → (board.new.station ≡ Some station.now) × (board.new.day ≡ day) }
+        ensures set { is_ok result ≡ true → board.new.shown ≡ Some (record { station = station.now; day = day }) }
         ensures unchanged { is_ok result ≡ false → board.new ≡ board.old }
         ensures same { self.new ≡ self.old }
     {

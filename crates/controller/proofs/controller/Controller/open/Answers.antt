@@ -6,11 +6,31 @@ use Rattle.controller.specs.Agreeing.{Agrees}
 use Rattle.controller.specs.Shown.{progress_in, standing_in}
 use Rattle.controller.proofs.Heard.{heard_after}
 use Rattle.controller.proofs.Agreed.{opening_places, agrees_more}
-use Rattle.controller.proofs.Called.{told_ok, opening_refused, was_ok, was_refused}
+use Rattle.controller.proofs.Called.{told_ok, opening_refused, was_ok}
 use Rattle.controller.proofs.controller.Controller.open.Goals as goal
 
-pub returns : goal.returns
-returns g c =
+pub returns-clause-told : goal.returns-clause-told
+returns-clause-told g c =
+    let s = standing_in g.S.Timetable.map g.S.Timetable.capacity c.args.self.now in
+    let row = c.args.row.now in
+    let p = progress_in c.hear_opening.new.self in
+    let r = c.hear_opening.result in
+    let out = c.numbered.result in
+    let n : out ≡ raised (in_extract (c.args.self.now.extract.taken + 1)) r = c.numbered.ensures ∙ ap (λ k. raised (in_extract (k + 1)) r) c.rows_taken-number.ensures in
+    opening_refused s row p r out n c.hear_opening.ensures.told
+
+pub returns-clause-taken : goal.returns-clause-taken
+returns-clause-taken g c =
+    let s = standing_in g.S.Timetable.map g.S.Timetable.capacity c.args.self.now in
+    let row = c.args.row.now in
+    let p = progress_in c.hear_opening.new.self in
+    let r = c.hear_opening.result in
+    let out = c.numbered.result in
+    let n : out ≡ raised (in_extract (c.args.self.now.extract.taken + 1)) r = c.numbered.ensures ∙ ap (λ k. raised (in_extract (k + 1)) r) c.rows_taken-number.ensures in
+    λ ok. heard_after is_no_opening s row p (told_ok p _ r c.hear_opening.ensures.told (was_ok s row p r out n ok))
+
+pub returns-clause-agrees : goal.returns-clause-agrees
+returns-clause-agrees g c =
     let s = standing_in g.S.Timetable.map g.S.Timetable.capacity c.args.self.now in
     let row = c.args.row.now in
     let p = progress_in c.hear_opening.new.self in
@@ -18,11 +38,4 @@ returns g c =
     let out = c.numbered.result in
     let n : out ≡ raised (in_extract (c.args.self.now.extract.taken + 1)) r = c.numbered.ensures ∙ ap (λ k. raised (in_extract (k + 1)) r) c.rows_taken-number.ensures in
     let store = ap (λ o. o.store) c.hear_opening.ensures.store in
-    record {
-      told = opening_refused s row p r out n c.hear_opening.ensures.told;
-      taken = λ ok. heard_after is_no_opening s row p (told_ok p _ r c.hear_opening.ensures.told (was_ok s row p r out n ok));
-      unchanged = λ h. c.hear_opening.ensures.unchanged (was_refused s row p r out n h);
-      store = store;
-      reference = c.hear_opening.ensures.reference;
-      agrees = λ rows a ok. subst (λ (v : g.row.S.Denot). Agrees (g.S.Timetable.map v) (g.S.Timetable.capacity v) (rows ++ row ∷ []) p) (sym store) (agrees_more is_no_opening opening_places s row p rows c.args.self.now.overlay.pending.lawful (told_ok p _ r c.hear_opening.ensures.told (was_ok s row p r out n ok)) a);
-    }
+    λ rows a ok. subst (λ (v : g.row.S.Denot). Agrees (g.S.Timetable.map v) (g.S.Timetable.capacity v) (rows ++ row ∷ []) p) (sym store) (agrees_more is_no_opening opening_places s row p rows c.args.self.now.overlay.pending.lawful (told_ok p _ r c.hear_opening.ensures.told (was_ok s row p r out n ok)) a)
