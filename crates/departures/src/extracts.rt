@@ -51,7 +51,11 @@ pub struct Extracts<'a, S> {
 
 impl<'a, S: Store + Drop> Extracts<'a, S> {
     // No extract is open, and no row was taken.
-    pub fn new(rt: &HostRuntime, mut store: S, wanted: Wanted<'a>) -> Result<Extracts<'a, S>, AllocError>
+    pub fn new(
+        rt: &HostRuntime,
+        mut store: S,
+        wanted: Wanted<'a>,
+    ) -> Result<Extracts<'a, S>, AllocError>
         ensures { IfOk result (λ extracts. extracts.controller.overlay.store ≡ store) }
     {
         let lines = line_slots(rt, &mut store)?;

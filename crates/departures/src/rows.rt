@@ -82,7 +82,9 @@ impl Tally {
     fn all_refused(&self) -> u64
         ensures { result ≡ fold (λ all n. counted (all + n)) 0 self.now.refused }
     {
-        self.refused.iter().fold(0, |all: u64, count| all.saturating_add(*count))
+        self.refused
+            .iter()
+            .fold(0, |all: u64, count| all.saturating_add(*count))
     }
 
     // How many rows there were.

@@ -241,7 +241,10 @@ impl Display for FaultWords<'_> {
         let number = self.0.fault.refusal.number();
         let column = self.0.fault.column;
         let identity = Text(&self.0.identity);
-        write!(f, "refused {number}, column {column}, identity \"{identity}\"")
+        write!(
+            f,
+            "refused {number}, column {column}, identity \"{identity}\""
+        )
     }
 }
 
