@@ -2,3 +2,4 @@ pub mod Stations
 pub mod Drafts
 pub mod Tallies
 pub mod Handing
+pub mod Keeping

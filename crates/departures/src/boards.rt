@@ -1,27 +1,19 @@
 // The departure board of a station and date.
-ghost use Rattle.std.specs.Prelude.{◌≡◌, min, length, IfOk};
+ghost use Rattle.std.specs.Prelude.{◌≡◌, ◌*◌, min, length, IfOk};
 ghost use Rattle.ordered.specs.Tables.{items};
 ghost use Rattle.departures.specs.Stations.{filled_up};
 
 use crate::drafts::{Asked, Draft};
+use crate::tasks::Wanted;
 use crate::words::{Text, meaning};
 use board::display::Board;
 use board::line::{Line, LineKey};
 use cif::reading::read;
 use cif::refusal::Refusal;
-use files::split_row;
-use forms::numbers::date;
+use files::Rows;
 use std::alloc::AllocError;
 use std::fs;
 use timetable::{Store, Timetable};
-
-// What a board is asked for, as the command line has it.
-#[derive(Clone, Copy)]
-pub struct Wanted<'a> {
-    pub store: &'a str,
-    pub station: &'a str,
-    pub date: &'a str,
-}
 
 // A line for slots that hold nothing yet.
 pub fn empty_line() -> Line {
@@ -38,18 +30,25 @@ pub fn empty_line() -> Line {
     }
 }
 
-// Does what a row asks, and says how many puts were refused.
-fn do_asked<S: Store>(store: &mut S, asked: Asked) -> u64
+// Line slots for a board of a store: twice as many as it can hold schedules. The store stays as it was.
+pub fn line_slots<S: Store>(rt: &HostRuntime, store: &mut S) -> Result<Vec<Line>, AllocError>
+    ensures slots { IfOk result (λ slots. length slots.items ≡ 2 * S.Timetable.capacity store.old) }
+    ensures same { store.new ≡ store.old }
+{
+    vec![in rt.alloc(); empty_line(); 2 * store.capacity()]
+}
+
+// Does what a row asks, and says whether it was a put that was refused.
+fn is_refused<S: Store>(store: &mut S, asked: Asked) -> bool
     ensures { S.Timetable.capacity store.new ≡ S.Timetable.capacity store.old }
 {
     match asked {
-        Asked::Put(schedule) => if store.put(schedule).is_ok() { 0 } else { 1 },
-        Asked::Unfit(_) => 1,
+        Asked::Put(schedule) => store.put(schedule).is_err(),
+        Asked::Unfit(_) => true,
         Asked::Remove(key) => {
             let _ = store.remove(key);
-            0
+            false
         }
-        Asked::Nothing => 0,
     }
 }
 
@@ -58,16 +57,15 @@ pub fn load_file<S: Store>(rt: &HostRuntime, store: &mut S, name: &str) -> anyho
     ensures { S.Timetable.capacity store.new ≡ S.Timetable.capacity store.old }
 {
     let bytes = fs::read(rt, name)?;
-    let mut rest = bytes.as_slice();
-    let mut draft = Draft::None;
+    let mut draft = Draft::new();
     let mut refused: u64 = 0;
-    while !rest.is_empty() {
-        let (row, after) = split_row(rest);
-        if let Ok(content) = read(row) {
-            let asked = draft.take(content);
-            refused = refused.saturating_add(do_asked(store, asked));
+    for row in Rows::new(bytes.as_slice()) {
+        if let Ok(content) = read(row)
+            && let Some(asked) = draft.take(content)
+            && is_refused(store, asked)
+        {
+            refused = refused.saturating_add(1);
         }
-        rest = after;
     }
     Ok(refused)
 }
@@ -77,19 +75,17 @@ pub fn filled(rt: &HostRuntime, station: &str) -> Result<Vec<u8>, AllocError>
     ensures { IfOk result (λ name. name.items ≡ filled_up station.now) }
 {
     let mut name = station.as_bytes().to_vec(rt.alloc())?;
-    if station.is_empty() {
-        return Ok(name);
-    }
-    while name.len() < 7 {
-        name.push(b' ')?;
+    if !name.is_empty() && name.len() < 7 {
+        name.resize(7, b' ')?;
     }
     Ok(name)
 }
 
-fn print_refused(rt: &HostRuntime, refusal: Refusal) -> anyhow::Result<()> {
+// Prints a refusal by its number, after a word or none.
+pub fn print_refused(rt: &HostRuntime, before: &str, refusal: Refusal) -> anyhow::Result<()> {
     let number = refusal.number();
     let words = meaning(refusal);
-    println!(rt; "refused {number}: {words}")?;
+    println!(rt; "{before}refused {number}: {words}")?;
     Ok(())
 }
 
@@ -111,28 +107,45 @@ pub fn shown_lines(shown: &mut Board, most: usize) -> u64
     ensures value { result ≡ min most (length (items shown.old.lines.inner)) }
     ensures same { shown.new ≡ shown.old }
 {
-    let mut lines: u64 = 0;
     for place in 0..most {
         if shown.tell(place).is_none() {
-            break;
+            return place as u64;
         }
-        lines = lines.saturating_add(1);
     }
-    lines
+    most as u64
 }
 
 // Prints the lines of a board in order, and how many there are.
 fn print_lines(rt: &HostRuntime, shown: &mut Board, most: usize) -> anyhow::Result<()> {
-    let mut lines: u64 = 0;
-    for place in 0..most {
-        let Some(line) = shown.tell(place) else {
-            break;
-        };
+    for line in (0..most).map_while(|place| shown.tell(place)) {
         print_line(rt, &line)?;
-        lines = lines.saturating_add(1);
     }
+    let lines = shown_lines(shown, most);
     println!(rt; "lines {lines}")?;
     Ok(())
+}
+
+// Turns a board to what is wanted so many times, if it can be turned to it. The store stays as it was.
+fn turned<'b, S: Store>(
+    rt: &HostRuntime,
+    store: &mut S,
+    slots: &'b mut [Line],
+    wanted: Wanted,
+    times: u64,
+) -> anyhow::Result<Result<Board<'b>, Refusal>>
+    ensures { store.new ≡ store.old }
+{
+    let Some(day) = wanted.day() else {
+        return Ok(Err(Refusal::NoSuchBoard));
+    };
+    let station = filled(rt, wanted.station)?;
+    let mut shown = Board::new(slots);
+    for _ in 0..times {
+        if let Err(fault) = shown.turn(store, station.as_slice(), day) {
+            return Ok(Err(fault.refusal));
+        }
+    }
+    Ok(Ok(shown))
 }
 
 // Turns a board to what is wanted and prints it, or why it cannot be turned. The store stays as it was.
@@ -145,24 +158,21 @@ pub fn print_board<S: Store>(
 ) -> anyhow::Result<()>
     ensures { store.new ≡ store.old }
 {
-    let Some((day, _)) = date(wanted.date.as_bytes()) else {
-        return print_refused(rt, Refusal::NoSuchBoard);
-    };
-    let station = filled(rt, wanted.station)?;
     let most = slots.len();
-    let mut shown = Board::new(slots);
-    if let Err(fault) = shown.turn(store, station.as_slice(), u32::from(day)) {
-        return print_refused(rt, fault.refusal);
-    }
+    let mut shown = match turned(rt, store, slots, wanted, 1)? {
+        Ok(shown) => shown,
+        Err(refusal) => return print_refused(rt, "", refusal),
+    };
     let Wanted {
         store: kind,
-        station: name,
-        date: when,
+        station,
+        date,
+        ..
     } = wanted;
     let held = store.count();
     let capacity = store.capacity();
     println!(rt;
-        "board {name} {when}, store {kind}: {held} of {capacity} schedules, refused {refused}"
+        "board {station} {date}, store {kind}: {held} of {capacity} schedules, refused {refused}"
     )?;
     print_lines(rt, &mut shown, most)
 }
@@ -177,17 +187,11 @@ pub fn print_turns<S: Store>(
 ) -> anyhow::Result<()>
     ensures { store.new ≡ store.old }
 {
-    let Some((day, _)) = date(wanted.date.as_bytes()) else {
-        return print_refused(rt, Refusal::NoSuchBoard);
-    };
-    let station = filled(rt, wanted.station)?;
     let most = slots.len();
-    let mut shown = Board::new(slots);
-    for _ in 0..times {
-        if let Err(fault) = shown.turn(store, station.as_slice(), u32::from(day)) {
-            return print_refused(rt, fault.refusal);
-        }
-    }
+    let mut shown = match turned(rt, store, slots, wanted, times)? {
+        Ok(shown) => shown,
+        Err(refusal) => return print_refused(rt, "", refusal),
+    };
     let lines = shown_lines(&mut shown, most);
     println!(rt; "turns {times}: lines {lines}")?;
     Ok(())

@@ -1,5 +1,6 @@
 // Schedules put together from their rows, without the rules of extracts.
 ghost use Rattle.std.specs.Prelude.{◌≡◌, true, false};
+ghost use Rattle.std.specs.declared.option.Option.TheVariants.{None};
 ghost use Rattle.departures.specs.Drafts.{can_ask, is_terminus};
 
 use cif::content::{BasicSchedule, Change, Content, Location};
@@ -13,87 +14,83 @@ pub enum Asked {
     Put(Schedule),
     Unfit(Key),
     Remove(Key),
-    Nothing,
 }
 
-// The schedule that is being read, if one was begun; an unfit one has a call too many.
+// The schedule that is being read, if one was begun; of an unfit one, with a call too many, the key.
 #[derive(Clone, Copy)]
-pub enum Draft {
-    None,
-    Begun(Schedule),
-    Unfit(Key),
+pub struct Draft {
+    begun: Option<Result<Schedule, Key>>,
 }
 
 impl Draft {
-    fn call(self, at: Location) -> Draft {
-        match self {
-            Draft::Begun(schedule) => match schedule.with_call(at) {
-                Ok(longer) => Draft::Begun(longer),
-                Err(_) => Draft::Unfit(schedule.key()),
-            },
-            other => other,
+    // No schedule is being read.
+    pub fn new() -> Draft
+        ensures { result.begun ≡ None }
+    {
+        Draft { begun: None }
+    }
+
+    fn call(&mut self, at: Location) {
+        if let Some(Ok(schedule)) = self.begun {
+            self.begun = Some(schedule.with_call(at).map_err(|_| schedule.key()));
         }
     }
 
-    fn end(self, at: Location) -> Asked {
-        match self.call(at) {
-            Draft::Begun(schedule) => Asked::Put(schedule.with_destination(at.tiploc)),
-            Draft::Unfit(key) => Asked::Unfit(key),
-            Draft::None => Asked::Nothing,
+    fn operator(&mut self, operator: [u8; 2]) {
+        if let Some(Ok(schedule)) = self.begun {
+            self.begun = Some(Ok(schedule.with_operator(operator)));
         }
     }
 
-    fn operator(self, operator: [u8; 2]) -> Draft {
-        match self {
-            Draft::Begun(schedule) => Draft::Begun(schedule.with_operator(operator)),
-            other => other,
-        }
+    fn end(&mut self, at: Location) -> Option<Asked>
+        ensures { self.new.begun ≡ None }
+    {
+        self.call(at);
+        let asked = match self.begun.take()? {
+            Ok(schedule) => Asked::Put(schedule.with_destination(at.tiploc)),
+            Err(key) => Asked::Unfit(key),
+        };
+        Some(asked)
     }
 
     // Takes a row, and says what it asks. After an LT no schedule is being read.
-    pub fn take(&mut self, content: Content) -> Asked
-        ensures asks { can_ask content ≡ false → result ≡ Asked.Nothing }
-        ensures ended { is_terminus content ≡ true → self.new ≡ Draft.None }
+    pub fn take(&mut self, content: Content) -> Option<Asked>
+        ensures asks { can_ask content ≡ false → result ≡ None }
+        ensures ended { is_terminus content ≡ true → self.new.begun ≡ None }
     {
         match content {
             Content::Schedule(basic) => {
                 let (draft, asked) = begin(&basic);
                 *self = draft;
-                asked
+                return asked;
             }
-            Content::Operator(operator) => {
-                *self = self.operator(operator);
-                Asked::Nothing
-            }
-            Content::Origin(at) | Content::Intermediate(at) => {
-                *self = self.call(at);
-                Asked::Nothing
-            }
-            Content::Terminus(at) => {
-                let asked = self.end(at);
-                *self = Draft::None;
-                asked
-            }
-            _ => Asked::Nothing,
+            Content::Operator(operator) => self.operator(operator),
+            Content::Origin(at) | Content::Intermediate(at) => self.call(at),
+            Content::Terminus(at) => return self.end(at),
+            _ => {}
         }
+        None
     }
 }
 
-fn begin(basic: &BasicSchedule) -> (Draft, Asked) {
+fn begin(basic: &BasicSchedule) -> (Draft, Option<Asked>) {
     let key = Key {
         uid: basic.uid,
         from: basic.from.0,
         stp: basic.stp,
     };
     let days = match basic.change {
-        Change::Delete => return (Draft::None, Asked::Remove(key)),
+        Change::Delete => return (Draft::new(), Some(Asked::Remove(key))),
         Change::New(days) | Change::Revise(days) => days,
     };
     let Some(schedule) = Schedule::begun(key, days.to.0, days.days, days.train) else {
-        return (Draft::None, Asked::Unfit(key));
+        return (Draft::new(), Some(Asked::Unfit(key)));
     };
     match basic.stp {
-        Stp::Cancellation => (Draft::None, Asked::Put(schedule)),
-        _ => (Draft::Begun(schedule), Asked::Nothing),
+        Stp::Cancellation => (Draft::new(), Some(Asked::Put(schedule))),
+        _ => {
+            let begun = Some(Ok(schedule));
+            (Draft { begun }, None)
+        }
     }
 }

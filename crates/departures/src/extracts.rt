@@ -1,22 +1,22 @@
 // Extracts taken row by row. Nothing here touches the store of a controller.
-ghost use Rattle.std.specs.Prelude.{◌≡◌, false, is_ok};
+ghost use Rattle.std.specs.Prelude.{◌≡◌, false, is_ok, IfOk};
 ghost use Rattle.cif.specs.Refusals.{fault_of};
 ghost use Rattle.controller.specs.Calls.{refusal_of};
 ghost use Rattle.controller.specs.Shown.{standing_in};
 ghost use Rattle.departures.specs.Handing.{handed};
 
-use crate::boards::{Wanted, filled, shown_lines};
+use crate::boards::{filled, line_slots, print_refused, shown_lines};
 use crate::rows::Tally;
-use crate::words::{KeyWords, RecordWords, Text, meaning, stage_name};
+use crate::tasks::{StoreKind, Wanted};
+use crate::words::{ChangeWords, FaultWords, Text, meaning, stage_name};
 use board::display::Board;
 use board::line::Line;
 use cif::refusal::Refusal;
 use controller::controller::Controller;
 use controller::fault::ExtractFault;
 use extract::stage::Stage;
-use files::split_row;
-use forms::numbers::date;
-use schedule::transaction::Change;
+use files::Rows;
+use std::alloc::AllocError;
 use std::fs;
 use timetable::{Store, Timetable};
 
@@ -32,193 +32,150 @@ fn hand<S: Store>(controller: &mut Controller<S>, row: &[u8]) -> Result<(), Extr
     }
 }
 
-// Stage, rows taken and number of pending transactions.
-fn print_state<S: Store>(
-    rt: &HostRuntime,
-    controller: &Controller<S>,
-    what: &str,
-) -> anyhow::Result<()> {
-    let stage = stage_name(controller.stage());
-    let rows = controller.rows_taken();
-    let pending = controller.pending_count();
-    println!(rt; "{what}stage {stage}, rows {rows}, pending {pending}")?;
-    Ok(())
-}
-
-fn print_taken<S: Store>(
-    rt: &HostRuntime,
-    controller: &Controller<S>,
-    number: u64,
-    row: &[u8],
-) -> anyhow::Result<()> {
-    if let [first, second, ..] = row {
-        let letters = [*first, *second];
-        let identity = Text(&letters);
-        print!(rt; "row {number}: done, {identity}, ")?;
-    }
-    print_state(rt, controller, "")
-}
-
-fn print_refused(rt: &HostRuntime, number: u64, fault: &ExtractFault) -> anyhow::Result<()> {
-    let refusal = fault.fault.fault.refusal;
-    let told = refusal.number();
-    let column = fault.fault.fault.column;
-    let identity = Text(&fault.fault.identity);
+fn print_fault(rt: &HostRuntime, number: usize, fault: &ExtractFault) -> anyhow::Result<()> {
+    let words = FaultWords(&fault.fault);
     let place = fault.row;
-    let words = meaning(refusal);
-    println!(rt;
-        "row {number}: refused {told}, column {column}, identity \"{identity}\", row {place}: {words}"
-    )?;
+    let meaning = meaning(fault.fault.fault.refusal);
+    println!(rt; "row {number}: {words}, row {place}: {meaning}")?;
     Ok(())
 }
 
-fn print_change(rt: &HostRuntime, change: &Change) -> anyhow::Result<()> {
-    match change {
-        Change::New(plain) => {
-            let words = RecordWords(plain);
-            println!(rt; "new {words}")?;
-        }
-        Change::Revise(plain) => {
-            let words = RecordWords(plain);
-            println!(rt; "revised {words}")?;
-        }
-        Change::Delete(key) => {
-            let words = KeyWords(*key);
-            println!(rt; "deleted {words}")?;
-        }
-    }
-    Ok(())
+// Extracts that are taken over a store, what came of their rows, and the board that is shown at the end of each.
+#[derive(Drop)]
+pub struct Extracts<'a, S> {
+    controller: Controller<S>,
+    pub tally: Tally,
+    lines: Vec<Line>,
+    wanted: Wanted<'a>,
 }
 
-fn print_pending<S: Store>(rt: &HostRuntime, controller: &Controller<S>) -> anyhow::Result<()> {
-    let pending = controller.pending_count();
-    println!(rt; "pending {pending} of 32")?;
-    for place in 0..pending {
-        if let Some(change) = controller.pending_at(place) {
-            print_change(rt, &change)?;
-        }
+impl<'a, S: Store + Drop> Extracts<'a, S> {
+    // No extract is open, and no row was taken.
+    pub fn new(
+        rt: &HostRuntime,
+        mut store: S,
+        wanted: Wanted<'a>,
+    ) -> Result<Extracts<'a, S>, AllocError>
+        ensures { IfOk result (λ extracts. extracts.controller.overlay.store ≡ store) }
+    {
+        let lines = line_slots(rt, &mut store)?;
+        Ok(Extracts {
+            controller: Controller::new(store),
+            tally: Tally::new(),
+            lines,
+            wanted,
+        })
     }
-    Ok(())
-}
 
-// Turns a board to what is wanted, from the store's own map, and counts its lines.
-fn lines_shown<S: Store>(
-    rt: &HostRuntime,
-    controller: &mut Controller<S>,
-    lines: &mut [Line],
-    wanted: Wanted,
-) -> anyhow::Result<Result<u64, Refusal>>
-    ensures { controller.new ≡ controller.old }
-{
-    let Some((day, _)) = date(wanted.date.as_bytes()) else {
-        return Ok(Err(Refusal::NoSuchBoard));
-    };
-    let station = filled(rt, wanted.station)?;
-    let most = lines.len();
-    let mut shown = Board::new(lines);
-    match controller.turn(&mut shown, station.as_slice(), u32::from(day)) {
-        Ok(()) => Ok(Ok(shown_lines(&mut shown, most))),
-        Err(fault) => Ok(Err(fault.fault.fault.refusal)),
+    // Prints stage, rows taken and number of pending transactions.
+    fn print_state(&self, rt: &HostRuntime, before: &str) -> anyhow::Result<()> {
+        let stage = stage_name(self.controller.stage());
+        let rows = self.controller.rows_taken();
+        let pending = self.controller.pending_count();
+        println!(rt; "{before}stage {stage}, rows {rows}, pending {pending}")?;
+        Ok(())
     }
-}
 
-fn print_shown<S: Store>(
-    rt: &HostRuntime,
-    controller: &mut Controller<S>,
-    lines: &mut [Line],
-    wanted: Wanted,
-) -> anyhow::Result<()>
-    ensures { controller.new ≡ controller.old }
-{
-    match lines_shown(rt, controller, lines, wanted)? {
-        Ok(count) => {
-            let station = wanted.station;
-            let date = wanted.date;
-            println!(rt; "board {station} {date}: lines {count}, none of this extract")?;
+    fn print_taken(&self, rt: &HostRuntime, number: usize, row: &[u8]) -> anyhow::Result<()> {
+        if let [first, second, ..] = row {
+            let letters = [*first, *second];
+            let identity = Text(&letters);
+            print!(rt; "row {number}: done, {identity}, ")?;
         }
-        Err(refusal) => {
-            let number = refusal.number();
-            let words = meaning(refusal);
-            println!(rt; "board refused {number}: {words}")?;
-        }
+        self.print_state(rt, "")
     }
-    Ok(())
-}
 
-// Tells what is pending and what the board shows, and drops the extract.
-fn end_extract<S: Store>(
-    rt: &HostRuntime,
-    controller: &mut Controller<S>,
-    lines: &mut [Line],
-    wanted: Wanted,
-) -> anyhow::Result<()>
-    ensures { controller.new.overlay.store ≡ controller.old.overlay.store }
-{
-    print_pending(rt, controller)?;
-    print_shown(rt, controller, lines, wanted)?;
-    if controller.abandon().is_ok() {
-        print_state(rt, controller, "abandoned: ")?;
+    fn print_pending(&self, rt: &HostRuntime) -> anyhow::Result<()> {
+        let pending = self.controller.pending_count();
+        println!(rt; "pending {pending} of 32")?;
+        for change in (0..pending).filter_map(|place| self.controller.pending_at(place)) {
+            let words = ChangeWords(&change);
+            println!(rt; "{words}")?;
+        }
+        Ok(())
     }
-    Ok(())
-}
 
-// Hands a row over, and prints what came of it.
-fn take_row<S: Store>(
-    rt: &HostRuntime,
-    controller: &mut Controller<S>,
-    tally: &mut Tally,
-    number: u64,
-    row: &[u8],
-) -> anyhow::Result<()>
-    ensures { controller.new.overlay.store ≡ controller.old.overlay.store }
-{
-    match hand(controller, row) {
-        Ok(()) => {
-            tally.note_done();
-            print_taken(rt, controller, number, row)
-        }
-        Err(fault) => {
-            tally.note_refused(fault.fault.fault.refusal);
-            print_refused(rt, number, &fault)
+    // Turns a board to what is wanted, from the store's own map, and counts its lines.
+    fn lines_shown(&mut self, rt: &HostRuntime) -> anyhow::Result<Result<u64, Refusal>>
+        ensures { self.new.controller ≡ self.old.controller }
+    {
+        let Some(day) = self.wanted.day() else {
+            return Ok(Err(Refusal::NoSuchBoard));
+        };
+        let station = filled(rt, self.wanted.station)?;
+        let most = self.lines.len();
+        let mut shown = Board::new(self.lines.as_mut_slice());
+        match self.controller.turn(&mut shown, station.as_slice(), day) {
+            Ok(()) => Ok(Ok(shown_lines(&mut shown, most))),
+            Err(fault) => Ok(Err(fault.fault.fault.refusal)),
         }
     }
-}
 
-// Hands the rows of a file over, and prints what came of each.
-pub fn take_file<S: Store>(
-    rt: &HostRuntime,
-    controller: &mut Controller<S>,
-    tally: &mut Tally,
-    lines: &mut [Line],
-    wanted: Wanted,
-    name: &str,
-) -> anyhow::Result<()>
-    ensures { controller.new.overlay.store ≡ controller.old.overlay.store }
-{
-    let bytes = fs::read(rt, name)?;
-    println!(rt; "file {name}")?;
-    let mut rest = bytes.as_slice();
-    let mut number: u64 = 0;
-    while !rest.is_empty() {
-        let (row, after) = split_row(rest);
-        number = number.saturating_add(1);
-        take_row(rt, controller, tally, number, row)?;
-        if matches!(controller.stage(), Stage::Complete) {
-            end_extract(rt, controller, lines, wanted)?;
+    fn print_shown(&mut self, rt: &HostRuntime) -> anyhow::Result<()>
+        ensures { self.new.controller ≡ self.old.controller }
+    {
+        match self.lines_shown(rt)? {
+            Ok(count) => {
+                let Wanted { station, date, .. } = self.wanted;
+                println!(rt; "board {station} {date}: lines {count}, none of this extract")?;
+                Ok(())
+            }
+            Err(refusal) => print_refused(rt, "board ", refusal),
         }
-        rest = after;
     }
-    if !matches!(controller.stage(), Stage::Idle) {
-        end_extract(rt, controller, lines, wanted)?;
+
+    // Tells what is pending and what the board shows, and drops the extract.
+    fn end_extract(&mut self, rt: &HostRuntime) -> anyhow::Result<()>
+        ensures { self.new.controller.overlay.store ≡ self.old.controller.overlay.store }
+    {
+        self.print_pending(rt)?;
+        self.print_shown(rt)?;
+        if self.controller.abandon().is_ok() {
+            self.print_state(rt, "abandoned: ")?;
+        }
+        Ok(())
     }
-    Ok(())
+
+    // Hands a row over, and prints what came of it.
+    fn take_row(&mut self, rt: &HostRuntime, number: usize, row: &[u8]) -> anyhow::Result<()>
+        ensures { self.new.controller.overlay.store ≡ self.old.controller.overlay.store }
+    {
+        match hand(&mut self.controller, row) {
+            Ok(()) => {
+                self.tally.note_done();
+                self.print_taken(rt, number, row)
+            }
+            Err(fault) => {
+                self.tally.note_refused(fault.fault.fault.refusal);
+                print_fault(rt, number, &fault)
+            }
+        }
+    }
+
+    // Hands the rows of a file over, and prints what came of each.
+    pub fn take_file(&mut self, rt: &HostRuntime, name: &str) -> anyhow::Result<()>
+        ensures { self.new.controller.overlay.store ≡ self.old.controller.overlay.store }
+    {
+        let bytes = fs::read(rt, name)?;
+        println!(rt; "file {name}")?;
+        for (place, row) in Rows::new(bytes.as_slice()).enumerate() {
+            self.take_row(rt, place + 1, row)?;
+            if self.controller.stage() == Stage::Complete {
+                self.end_extract(rt)?;
+            }
+        }
+        if self.controller.stage() != Stage::Idle {
+            self.end_extract(rt)?;
+        }
+        Ok(())
+    }
 }
 
 // How much of the store the base takes up.
 pub fn print_head<S: Store>(
     rt: &HostRuntime,
     store: &mut S,
-    kind: &str,
+    kind: StoreKind,
     refused: u64,
 ) -> anyhow::Result<()>
     ensures { store.new ≡ store.old }

@@ -1,187 +1,108 @@
 // Reads files of rows in the CIF layout, and prints what they hold.
 #![tactic(auto)]
 
-use anyhow::anyhow;
-use controller::controller::Controller;
 use std::env;
 use stores::bag::Bag;
 use stores::table::Table;
-use timetable::{Store, Timetable};
+use timetable::Store;
 
 mod boards;
 mod drafts;
 mod extracts;
 mod keeping;
 mod rows;
+mod tasks;
 mod words;
 
-const USAGE: &str =
-    "usage: departures rows FILE... | departures stores CAPACITY FILE... | departures board STORE CAPACITY STATION DATE FILE... | departures extract STORE CAPACITY STATION DATE BASE FILE...";
+use extracts::Extracts;
+use keeping::Both;
+use tasks::{StoreKind, Task, Wanted, Work};
 
-// How many slots may be asked for.
-const MOST_SLOTS: usize = 65_536;
-
-fn run_rows(rt: &HostRuntime, names: &[String]) -> anyhow::Result<()> {
+fn run_rows(rt: &HostRuntime, files: &[String]) -> anyhow::Result<()> {
     let mut total = rows::Tally::new();
-    for name in names {
+    for name in files {
         let tally = rows::print_file(rt, name.as_str())?;
         total.add(&tally);
     }
-    rows::print_total(rt, names.len() as u64, &total)
+    rows::print_total(rt, files.len() as u64, &total)
 }
 
-fn run_stores(rt: &HostRuntime, capacity: &str, names: &[String]) -> anyhow::Result<()> {
-    let slots = slots_in(capacity)?;
+fn run_stores(rt: &HostRuntime, slots: usize, files: &[String]) -> anyhow::Result<()> {
     let blank = keeping::empty_record();
     let mut first = vec![in rt.alloc(); blank; slots]?;
     let mut second = vec![in rt.alloc(); blank; slots]?;
-    let mut table = Table::new(first.as_mut_slice());
-    let mut bag = Bag::new(second.as_mut_slice());
-    for name in names {
-        keeping::take_file(rt, &mut table, &mut bag, name.as_str())?;
+    let mut both = Both::new(first.as_mut_slice(), second.as_mut_slice());
+    for name in files {
+        both.take_file(rt, name.as_str())?;
     }
-    keeping::print_stores(rt, &mut table, &mut bag)
+    both.print_stores(rt)
 }
 
-// The number of slots that is asked for, if there may be so many.
-fn slots_in(capacity: &str) -> anyhow::Result<usize> {
-    let slots = capacity.parse::<usize>()?;
-    if slots > MOST_SLOTS {
-        return Err(anyhow!(USAGE));
-    }
-    Ok(slots)
-}
-
-// Loads the files into a store, and prints the board, or turns it so many times.
-fn run_board_on<S: Store>(
-    rt: &HostRuntime,
-    store: &mut S,
-    wanted: boards::Wanted,
-    times: Option<u64>,
-    names: &[String],
-) -> anyhow::Result<()> {
+// Puts the schedules of files into a store, and says how many were refused.
+fn load_files<S: Store>(rt: &HostRuntime, store: &mut S, files: &[String]) -> anyhow::Result<u64> {
     let mut refused: u64 = 0;
-    for name in names {
+    for name in files {
         refused = refused.saturating_add(boards::load_file(rt, store, name.as_str())?);
     }
-    let mut lines = vec![in rt.alloc(); boards::empty_line(); 2 * store.capacity()]?;
-    match times {
-        Some(times) => boards::print_turns(rt, store, lines.as_mut_slice(), wanted, times),
-        None => boards::print_board(rt, store, lines.as_mut_slice(), wanted, refused),
-    }
+    Ok(refused)
 }
 
-fn run_board(
-    rt: &HostRuntime,
-    capacity: &str,
-    wanted: boards::Wanted,
-    times: Option<u64>,
-    names: &[String],
-) -> anyhow::Result<()> {
-    let blank = keeping::empty_record();
-    let mut slots = vec![in rt.alloc(); blank; slots_in(capacity)?]?;
+// Does work over an empty store of the kind that is wanted.
+fn run_over_store(rt: &HostRuntime, wanted: Wanted, work: Work) -> anyhow::Result<()> {
+    let mut slots = vec![in rt.alloc(); keeping::empty_record(); wanted.slots]?;
     match wanted.store {
-        "table" => {
-            let mut store = Table::new(slots.as_mut_slice());
-            run_board_on(rt, &mut store, wanted, times, names)
-        }
-        "bag" => {
-            let mut store = Bag::new(slots.as_mut_slice());
-            run_board_on(rt, &mut store, wanted, times, names)
-        }
-        _ => Err(anyhow!(USAGE)),
+        StoreKind::Table => run_work(rt, Table::new(slots.as_mut_slice()), wanted, work),
+        StoreKind::Bag => run_work(rt, Bag::new(slots.as_mut_slice()), wanted, work),
     }
 }
 
-// A board that words ask for: a store, a capacity, a station, a date and files.
-fn run_wanted(rt: &HostRuntime, times: Option<u64>, words: &[String]) -> anyhow::Result<()> {
-    match words {
-        [store, capacity, station, date, names @ ..] if !names.is_empty() => {
-            let wanted = boards::Wanted {
-                store: store.as_str(),
-                station: station.as_str(),
-                date: date.as_str(),
-            };
-            run_board(rt, capacity.as_str(), wanted, times, names)
+fn run_work<S: Store + Drop>(
+    rt: &HostRuntime,
+    mut store: S,
+    wanted: Wanted,
+    work: Work,
+) -> anyhow::Result<()> {
+    match work {
+        Work::Board(files) => {
+            let refused = load_files(rt, &mut store, files)?;
+            let mut lines = boards::line_slots(rt, &mut store)?;
+            boards::print_board(rt, &mut store, lines.as_mut_slice(), wanted, refused)
         }
-        _ => Err(anyhow!(USAGE)),
+        Work::Turns(times, files) => {
+            let _ = load_files(rt, &mut store, files)?;
+            let mut lines = boards::line_slots(rt, &mut store)?;
+            boards::print_turns(rt, &mut store, lines.as_mut_slice(), wanted, times)
+        }
+        Work::Extracts(base, files) => run_extracts(rt, store, wanted, base, files),
     }
 }
 
 // Loads the base into a store, and takes the extracts of the files over it.
-fn run_extract_on<S: Store + Drop>(
+fn run_extracts<S: Store + Drop>(
     rt: &HostRuntime,
     mut store: S,
-    wanted: boards::Wanted,
+    wanted: Wanted,
     base: &str,
-    names: &[String],
+    files: &[String],
 ) -> anyhow::Result<()> {
-    let mut refused: u64 = 0;
-    if base != "-" {
-        refused = boards::load_file(rt, &mut store, base)?;
-    }
+    let refused = if base == "-" {
+        0
+    } else {
+        boards::load_file(rt, &mut store, base)?
+    };
     extracts::print_head(rt, &mut store, wanted.store, refused)?;
-    let mut lines = vec![in rt.alloc(); boards::empty_line(); 2 * store.capacity()]?;
-    let mut controller = Controller::new(store);
-    let mut tally = rows::Tally::new();
-    for name in names {
-        extracts::take_file(
-            rt,
-            &mut controller,
-            &mut tally,
-            lines.as_mut_slice(),
-            wanted,
-            name.as_str(),
-        )?;
+    let mut extracts = Extracts::new(rt, store, wanted)?;
+    for name in files {
+        extracts.take_file(rt, name.as_str())?;
     }
-    rows::print_outcome(rt, names.len() as u64, "done", &tally)
-}
-
-fn run_extract(
-    rt: &HostRuntime,
-    capacity: &str,
-    wanted: boards::Wanted,
-    base: &str,
-    names: &[String],
-) -> anyhow::Result<()> {
-    let blank = keeping::empty_record();
-    let mut slots = vec![in rt.alloc(); blank; slots_in(capacity)?]?;
-    match wanted.store {
-        "table" => run_extract_on(rt, Table::new(slots.as_mut_slice()), wanted, base, names),
-        "bag" => run_extract_on(rt, Bag::new(slots.as_mut_slice()), wanted, base, names),
-        _ => Err(anyhow!(USAGE)),
-    }
-}
-
-// Extracts that words ask for: a store, a capacity, a station, a date, a base and files.
-fn run_extracts(rt: &HostRuntime, words: &[String]) -> anyhow::Result<()> {
-    match words {
-        [store, capacity, station, date, base, names @ ..] if !names.is_empty() => {
-            let wanted = boards::Wanted {
-                store: store.as_str(),
-                station: station.as_str(),
-                date: date.as_str(),
-            };
-            run_extract(rt, capacity.as_str(), wanted, base.as_str(), names)
-        }
-        _ => Err(anyhow!(USAGE)),
-    }
+    rows::print_outcome(rt, files.len() as u64, "done", &extracts.tally)
 }
 
 fn run_task(rt: &HostRuntime, words: &[String]) -> anyhow::Result<()> {
-    match words {
-        [command, names @ ..] if command.as_str() == "rows" && !names.is_empty() => run_rows(
-            rt, names,
-        ),
-        [command, capacity, names @ ..] if command.as_str() == "stores" && !names.is_empty() => {
-            run_stores(rt, capacity.as_str(), names)
-        }
-        [command, rest @ ..] if command.as_str() == "board" => run_wanted(rt, None, rest),
-        [command, rest @ ..] if command.as_str() == "extract" => run_extracts(rt, rest),
-        [command, times, rest @ ..] if command.as_str() == "turns" => {
-            run_wanted(rt, Some(times.as_str().parse::<u64>()?), rest)
-        }
-        _ => Err(anyhow!(USAGE)),
+    match Task::from_words(words)? {
+        Task::Rows(files) => run_rows(rt, files),
+        Task::Stores(slots, files) => run_stores(rt, slots, files),
+        Task::OverStore(wanted, work) => run_over_store(rt, wanted, work),
     }
 }
 

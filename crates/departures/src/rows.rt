@@ -1,13 +1,13 @@
 // Rows one by one: what each holds, or why it is turned away.
-ghost use Rattle.std.specs.Prelude.{◌≡◌, ℕ, ◌+◌, ◌<◌, ◌≢◌, min, slice_index};
+ghost use Rattle.std.specs.Prelude.{◌≡◌, ℕ, ◌+◌, ◌<◌, ◌≢◌, min, slice_index, fold};
 ghost use Rattle.cif.specs.Refusals.{number_of};
 ghost use Rattle.departures.specs.Tallies.{counted};
 
-use crate::words::{Text, Words, meaning};
+use crate::words::{FaultWords, Words, meaning};
 use cif::content::Content;
 use cif::reading::read;
 use cif::refusal::{Refusal, RowFault};
-use files::split_row;
+use files::Rows;
 use std::fs;
 
 const REFUSALS: [Refusal; 15] = [
@@ -71,18 +71,33 @@ impl Tally {
         }
     }
 
-    fn refused(&self) -> u64 {
-        let mut all: u64 = 0;
-        for count in self.refused {
-            all = all.saturating_add(count);
-        }
-        all
+    // How many rows were refused with a number.
+    fn times(&self, refusal: Refusal) -> u64
+        ensures { result ≡ slice_index self.now.refused (number_of refusal) }
+    {
+        self.refused[refusal.number() as usize]
+    }
+
+    // How many rows were refused at all.
+    fn all_refused(&self) -> u64
+        ensures { result ≡ fold (λ all n. counted (all + n)) 0 self.now.refused }
+    {
+        self.refused
+            .iter()
+            .fold(0, |all: u64, count| all.saturating_add(*count))
+    }
+
+    // How many rows there were.
+    fn rows(&self) -> u64
+        ensures { result ≡ counted (self.now.done + fold (λ all n. counted (all + n)) 0 self.now.refused) }
+    {
+        self.done.saturating_add(self.all_refused())
     }
 }
 
 fn print_row(
     rt: &HostRuntime,
-    number: u64,
+    number: usize,
     outcome: &Result<Content, RowFault>,
 ) -> anyhow::Result<()> {
     match outcome {
@@ -91,14 +106,9 @@ fn print_row(
             println!(rt; "row {number}: {words}")?;
         }
         Err(fault) => {
-            let refusal = fault.fault.refusal;
-            let told = refusal.number();
-            let column = fault.fault.column;
-            let identity = Text(&fault.identity);
-            let words = meaning(refusal);
-            println!(rt;
-                "row {number}: refused {told}, column {column}, identity \"{identity}\": {words}"
-            )?;
+            let words = FaultWords(fault);
+            let meaning = meaning(fault.fault.refusal);
+            println!(rt; "row {number}: {words}: {meaning}")?;
         }
     }
     Ok(())
@@ -108,23 +118,19 @@ fn print_row(
 pub fn print_file(rt: &HostRuntime, name: &str) -> anyhow::Result<Tally> {
     let bytes = fs::read(rt, name)?;
     println!(rt; "file {name}")?;
-    let mut rest = bytes.as_slice();
     let mut tally = Tally::new();
-    let mut number: u64 = 0;
-    while !rest.is_empty() {
-        let (row, after) = split_row(rest);
-        number = number.saturating_add(1);
+    for (place, row) in Rows::new(bytes.as_slice()).enumerate() {
         let outcome = read(row);
         match &outcome {
             Ok(_) => tally.note_done(),
             Err(fault) => tally.note_refused(fault.fault.refusal),
         }
-        print_row(rt, number, &outcome)?;
-        rest = after;
+        print_row(rt, place + 1, &outcome)?;
     }
+    let rows = tally.rows();
     let read = tally.done;
-    let refused = tally.refused();
-    println!(rt; "rows {number}: read {read}, refused {refused}")?;
+    let refused = tally.all_refused();
+    println!(rt; "rows {rows}: read {read}, refused {refused}")?;
     Ok(tally)
 }
 
@@ -140,13 +146,13 @@ pub fn print_outcome(
     verb: &str,
     total: &Tally,
 ) -> anyhow::Result<()> {
+    let rows = total.rows();
     let done = total.done;
-    let refused = total.refused();
-    let rows = done.saturating_add(refused);
+    let refused = total.all_refused();
     println!(rt; "files {files}, rows {rows}: {verb} {done}, refused {refused}")?;
     for refusal in REFUSALS {
         let number = refusal.number();
-        let count = total.refused.get(number as usize).copied().unwrap_or(0);
+        let count = total.times(refusal);
         if count > 0 {
             let words = meaning(refusal);
             println!(rt; "refused {number}: {count} times, {words}")?;

@@ -1,13 +1,24 @@
 // What rows hold, in plain words.
 use cif::content::{BasicSchedule, Change, Content, Header, Location, Running};
 use cif::identity::Identity;
-use cif::refusal::Refusal;
+use cif::refusal::{Refusal, RowFault};
 use extract::stage::Stage;
 use forms::letters::{Coverage, Stp};
 use schedule::key::Key;
 use schedule::record::Record;
+use schedule::transaction;
 use std::fmt;
 use std::fmt::{Display, Formatter};
+
+const WEEKDAYS: [&str; 7] = [
+    "Monday",
+    "Tuesday",
+    "Wednesday",
+    "Thursday",
+    "Friday",
+    "Saturday",
+    "Sunday",
+];
 
 // Bytes as they stand.
 #[derive(Clone, Copy)]
@@ -53,52 +64,29 @@ struct Day((u16, u8));
 impl Display for Day {
     fn fmt<W: fmt::Write>(&self, f: &mut Formatter<W>) -> fmt::Result {
         let (number, weekday) = self.0;
-        let name = match weekday {
-            0 => "Monday",
-            1 => "Tuesday",
-            2 => "Wednesday",
-            3 => "Thursday",
-            4 => "Friday",
-            5 => "Saturday",
-            _ => "Sunday",
-        };
+        let name = WEEKDAYS.get(weekday as usize).unwrap_or(&"Sunday");
         write!(f, "day {number} ({name})")
     }
 }
 
-fn short_name(day: usize) -> &'static str {
-    match day {
-        0 => "Mon",
-        1 => "Tue",
-        2 => "Wed",
-        3 => "Thu",
-        4 => "Fri",
-        5 => "Sat",
-        _ => "Sun",
-    }
-}
-
-// The days of the week on which a train runs.
+// The days of the week on which a train runs, each by its first three letters.
 #[derive(Clone, Copy)]
 pub struct DaysRun<'a>(pub &'a [bool; 7]);
 
 impl Display for DaysRun<'_> {
     fn fmt<W: fmt::Write>(&self, f: &mut Formatter<W>) -> fmt::Result {
         let mut none = true;
-        for (day, runs) in self.0.iter().enumerate() {
+        for (name, runs) in WEEKDAYS.iter().zip(self.0) {
             if *runs {
-                if !none {
-                    f.write_str(" ")?;
-                }
-                f.write_str(short_name(day))?;
+                let between = if none { "" } else { " " };
+                write!(f, "{between}{name:.3}")?;
                 none = false;
             }
         }
         if none {
-            f.write_str("on no day")
-        } else {
-            Ok(())
+            f.write_str("on no day")?;
         }
+        Ok(())
     }
 }
 
@@ -244,6 +232,22 @@ impl Display for Words<'_> {
     }
 }
 
+// A fault by its number, column and identity.
+#[derive(Clone, Copy)]
+pub struct FaultWords<'a>(pub &'a RowFault);
+
+impl Display for FaultWords<'_> {
+    fn fmt<W: fmt::Write>(&self, f: &mut Formatter<W>) -> fmt::Result {
+        let number = self.0.fault.refusal.number();
+        let column = self.0.fault.column;
+        let identity = Text(&self.0.identity);
+        write!(
+            f,
+            "refused {number}, column {column}, identity \"{identity}\""
+        )
+    }
+}
+
 // What a refusal means.
 pub fn meaning(refusal: Refusal) -> &'static str {
     match refusal {
@@ -309,5 +313,28 @@ impl Display for RecordWords<'_> {
             f,
             ", operator \"{operator}\", destination \"{destination}\", calls {calls}"
         )
+    }
+}
+
+// A transaction on one line.
+#[derive(Clone, Copy)]
+pub struct ChangeWords<'a>(pub &'a transaction::Change);
+
+impl Display for ChangeWords<'_> {
+    fn fmt<W: fmt::Write>(&self, f: &mut Formatter<W>) -> fmt::Result {
+        match self.0 {
+            transaction::Change::New(plain) => {
+                let words = RecordWords(plain);
+                write!(f, "new {words}")
+            }
+            transaction::Change::Revise(plain) => {
+                let words = RecordWords(plain);
+                write!(f, "revised {words}")
+            }
+            transaction::Change::Delete(key) => {
+                let words = KeyWords(*key);
+                write!(f, "deleted {words}")
+            }
+        }
     }
 }

@@ -1,23 +1,26 @@
 -- Where a file's first row ends.
-use Rattle.std.proofs.Common.{◌≡◌, ℕ, ◌+◌, ◌<◌, true, false, eqb, List, [], ◌∷◌, ◌++◌, length, get_or, take, drop, sym, ap, ◌∙◌, append_assoc}
-use Rattle.std.proofs.lemmas.List.{at_drop_more, take_more}
-use Rattle.std.proofs.lemmas.Bool.{cond-true, cond-false}
+use Rattle.std.proofs.Common.{◌≡◌, ℕ, ◌+◌, true, false, not, cond, eqb, List, [], ◌∷◌, take, drop, refl, ap, ◌∙◌, suc, arith}
+use Rattle.std.specs.List.{position_or_len}
 use Rattle.files.specs.Files.{first_row, other_rows}
 
-module _ (cs : List ℕ) (i : ℕ) (l : i < length cs) where
-  -- at a line feed the row ends
-  pub row_ends : eqb (get_or cs i 0) 10 ≡ true → first_row (drop i cs) ≡ []
-  row_ends h = at_drop_more first_row cs i 0 l ∙ cond-true (eqb (get_or cs i 0) 10) _ _ h
+-- the row is what stands before the first line feed
+pub row_before : (cs : List ℕ) → take (position_or_len (λ c. eqb c 10) cs) cs ≡ first_row cs
+row_before [] = refl
+row_before (c ∷ cs) =
+    let n = position_or_len (λ c. eqb c 10) cs in
+    let more : 1 + n ≡ suc n = omega arith in
+    elim (eqb c 10) as (λ b. take (cond (not b) (1 + n) 0) (c ∷ cs) ≡ cond b [] (c ∷ first_row cs)) [
+      | true ↦ refl
+      | false ↦ ap (λ (k : ℕ). take k (c ∷ cs)) more ∙ ap (λ (xs : List ℕ). c ∷ xs) (row_before cs)
+    ]
 
-  pub rest_begins : eqb (get_or cs i 0) 10 ≡ true → other_rows (drop i cs) ≡ drop (i + 1) cs
-  rest_begins h = at_drop_more other_rows cs i 0 l ∙ cond-true (eqb (get_or cs i 0) 10) _ _ h
-
-  -- at any other byte it goes on
-  pub row_goes_on : eqb (get_or cs i 0) 10 ≡ false → take i cs ++ first_row (drop i cs) ≡ take (i + 1) cs ++ first_row (drop (i + 1) cs)
-  row_goes_on h =
-      ap (λ (xs : List ℕ). take i cs ++ xs) (at_drop_more first_row cs i 0 l ∙ cond-false (eqb (get_or cs i 0) 10) _ _ h)
-      ∙ (sym (append_assoc (take i cs) (get_or cs i 0 ∷ []) (first_row (drop (i + 1) cs)))
-      ∙ ap (λ (xs : List ℕ). xs ++ first_row (drop (i + 1) cs)) (sym (take_more cs i 0 l)))
-
-  pub rest_goes_on : eqb (get_or cs i 0) 10 ≡ false → other_rows (drop i cs) ≡ other_rows (drop (i + 1) cs)
-  rest_goes_on h = at_drop_more other_rows cs i 0 l ∙ cond-false (eqb (get_or cs i 0) 10) _ _ h
+-- and the other rows are what stands after it
+pub rest_after : (cs : List ℕ) → drop (position_or_len (λ c. eqb c 10) cs + 1) cs ≡ other_rows cs
+rest_after [] = refl
+rest_after (c ∷ cs) =
+    let n = position_or_len (λ c. eqb c 10) cs in
+    let more : 1 + n + 1 ≡ suc (n + 1) = omega arith in
+    elim (eqb c 10) as (λ b. drop (cond (not b) (1 + n) 0 + 1) (c ∷ cs) ≡ cond b cs (other_rows cs)) [
+      | true ↦ refl
+      | false ↦ ap (λ (k : ℕ). drop k (c ∷ cs)) more ∙ rest_after cs
+    ]

@@ -39,14 +39,11 @@ fn call(tiploc: u8, time: &[u8; 4]) -> [u8; 80] {
 
 // Whether a row was refused with a number and column, and told as that of its extract.
 fn is_told(r: Result<(), ExtractFault>, number: u8, column: u8, place: u16) -> bool {
-    match r {
-        Ok(()) => false,
-        Err(fault) => {
-            fault.fault.fault.refusal.number() == number
-                && fault.fault.fault.column == column
-                && fault.row == place
-        }
-    }
+    r.is_err_and(|fault| {
+        fault.fault.fault.refusal.number() == number
+            && fault.fault.fault.column == column
+            && fault.row == place
+    })
 }
 
 // Hands a row over so many times.

@@ -6,7 +6,6 @@ ghost use Rattle.forms.specs.declared.letters.Stp.TheVariants.{Permanent};
 ghost use Rattle.schedule.specs.Records.{in_range, is_schedule};
 ghost use Rattle.scenarios.specs.Samples.{sample};
 
-use cif::content::Location;
 use forms::letters::Stp;
 use schedule::key::Key;
 use schedule::record::Record;
@@ -16,22 +15,12 @@ use schedule::schedule::Schedule;
 pub fn record(uid: u32, from: u16, stp: Stp, to: u16) -> Record
     ensures { result ≡ sample (record { uid = uid; from = from; stp = stp }) to }
 {
-    let filler = Location {
-        tiploc: *b"       ",
-        suffix: b' ',
-        arrival: None,
-        departure: None,
-        platform: *b"   ",
-    };
     Record {
         key: Key { uid, from, stp },
         to,
         days: [true; 7],
         train: *b"1A23",
-        operator: *b"  ",
-        destination: *b"       ",
-        calls: [filler; 48],
-        count: 0,
+        ..Schedule::blank().to_record()
     }
 }
 
@@ -73,18 +62,9 @@ mod tests {
     // A store of two slots, filled, refused, emptied by one and filled again.
     fn two_slots<S: Store>(rt: &impl Abort, store: &mut S) -> Result<(), Fail> {
         assert!(rt; store.capacity() == 2);
-        let Some(a) = one_day(5, 10) else {
-            assert!(rt; false);
-            return Ok(());
-        };
-        let Some(b) = one_day(2, 10) else {
-            assert!(rt; false);
-            return Ok(());
-        };
-        let Some(c) = one_day(9, 10) else {
-            assert!(rt; false);
-            return Ok(());
-        };
+        let a = one_day(5, 10).ok_or("no schedule")?;
+        let b = one_day(2, 10).ok_or("no schedule")?;
+        let c = one_day(9, 10).ok_or("no schedule")?;
         assert!(rt; store.put(a).is_ok());
         assert!(rt; store.put(b).is_ok());
         assert!(rt; store.put(c).is_err());
@@ -98,10 +78,7 @@ mod tests {
 
     // What is found after that, and what is not.
     fn found<S: Store>(rt: &impl Abort, store: &mut S) -> Result<(), Fail> {
-        let Some(mut place) = one_day(7, 7) else {
-            assert!(rt; false);
-            return Ok(());
-        };
+        let mut place = one_day(7, 7).ok_or("no schedule")?;
         assert!(rt; !store.find(key(5, 10), &mut place));
         assert!(rt; place.key().uid == 7);
         assert!(rt; store.find(key(9, 10), &mut place));
@@ -117,10 +94,7 @@ mod tests {
     // A store of no slots refuses each put and says no to each removal.
     fn no_slots<S: Store>(rt: &impl Abort, store: &mut S) -> Result<(), Fail> {
         assert!(rt; store.capacity() == 0);
-        let Some(a) = one_day(5, 10) else {
-            assert!(rt; false);
-            return Ok(());
-        };
+        let a = one_day(5, 10).ok_or("no schedule")?;
         assert!(rt; store.put(a).is_err());
         assert!(rt; !store.remove(key(5, 10)));
         assert!(rt; store.count() == 0);

@@ -1,38 +1,23 @@
-use Rattle.std.proofs.Common.{ℕ, List, ◌++◌, take, sym, ap, ◌∙◌, arith}
-use Rattle.std.proofs.lemmas.List.{append-nil, take_all, drop_all, at_drop_all}
-use Rattle.std.proofs.lemmas.Bool.{eq-eqb, ne_eqb}
-use Rattle.files.specs.Files.{first_row, other_rows}
-use Rattle.files.proofs.Splits.{row_ends, rest_begins, row_goes_on, rest_goes_on}
+use Rattle.std.proofs.Common.{◌≡◌, ◌+◌, ℕ, Bool, true, false, not, cond, eqb, List, take, drop, ap, ◌∙◌, sym, refl, rules, arith}
+use borrow.Author.Tests.{tests}
+use Rattle.std.specs.List.{position_or_len}
+use Rattle.std.proofs.lemmas.Iterator.{YieldsList-from_slice, IsFirst-from_position, index_from_first}
+use Rattle.files.proofs.Splits.{row_before, rest_after}
 use Rattle.files.proofs.row_length.Goals as goal
-
-pub returns-then-b-eq10 : goal.returns-then-b-eq10
-returns-then-b-eq10 c =
-    let l = c.loop-i-test.true in
-    let feed = eq-eqb _ 10 c.if-b-eq10.true in
-    record {
-      within = omega arith;
-      row =
-          sym (append-nil (take c.loop-i.i c.args.bytes.now))
-          ∙ (ap (λ (xs : List ℕ). take c.loop-i.i c.args.bytes.now ++ xs) (sym (row_ends c.args.bytes.now c.loop-i.i l feed)) ∙ c.loop-i.invariant.0);
-      rest = sym (rest_begins c.args.bytes.now c.loop-i.i l feed) ∙ c.loop-i.invariant.1;
-    }
-
-pub loop-i-preserved : goal.loop-i-preserved
-loop-i-preserved c =
-    let other = ne_eqb _ 10 c.if-b-eq10.false in (
-      sym (row_goes_on c.args.bytes.now c.loop-i.i c.loop-i-test.true other) ∙ c.loop-i.invariant.0,
-      sym (rest_goes_on c.args.bytes.now c.loop-i.i c.loop-i-test.true other) ∙ c.loop-i.invariant.1,
-    )
 
 pub returns : goal.returns
 returns c =
-    let past = c.loop-i-test.false in
+    let is_feed = λ (b : ℕ). eqb b 10 in
+    let first =
+    IsFirst-from_position _ _ c.position.result (λ b. is_feed b ≡ true) (λ b. is_feed b ≡ false) c.position.ensures.ran (YieldsList-from_slice c.args.bytes.now cc) (λ x q k. search (rules, tests)) (λ x q k. search (rules, tests))
+    in
+    let at_feed = λ (x : ℕ) (xs : List ℕ) (yes : is_feed x ≡ true). ap (λ (b : Bool). cond (not b) (1 + position_or_len is_feed xs) 0) yes in
+    let past = λ (x : ℕ) (xs : List ℕ) (no : is_feed x ≡ false). ap (λ (b : Bool). cond (not b) (1 + position_or_len is_feed xs) 0) no ∙ omega arith in
+    let place : c.unwrap_or.result ≡ position_or_len is_feed c.args.bytes.now =
+    c.unwrap_or.ensures ∙ sym (index_from_first (position_or_len is_feed) (λ b. is_feed b ≡ true) (λ b. is_feed b ≡ false) refl at_feed past c.args.bytes.now _ first)
+    in
     record {
-      within = omega arith;
-      row =
-          take_all _ c.args.bytes.now (omega arith)
-          ∙ (sym (take_all c.loop-i.i c.args.bytes.now past)
-          ∙ (sym (append-nil (take c.loop-i.i c.args.bytes.now))
-          ∙ (ap (λ (xs : List ℕ). take c.loop-i.i c.args.bytes.now ++ xs) (sym (at_drop_all first_row c.args.bytes.now c.loop-i.i past)) ∙ c.loop-i.invariant.0)));
-      rest = drop_all _ c.args.bytes.now (omega arith) ∙ (sym (at_drop_all other_rows c.args.bytes.now c.loop-i.i past) ∙ c.loop-i.invariant.1);
+      within = search rules;
+      row = ap (λ (n : ℕ). take n c.args.bytes.now) place ∙ row_before c.args.bytes.now;
+      rest = ap (λ (n : ℕ). drop (n + 1) c.args.bytes.now) place ∙ rest_after c.args.bytes.now;
     }

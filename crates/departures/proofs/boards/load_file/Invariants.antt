@@ -1,8 +1,5 @@
-use Rattle.std.proofs.Common.{◌≡◌, length}
+use Rattle.std.proofs.Common.{◌≡◌}
 use Rattle.departures.proofs.boards.load_file.Given as goal
 
-abbrev pub decreases-loop-rest : goal.decreases-loop-rest
-decreases-loop-rest g l = length l.rest
-
-abbrev pub invariant-loop-rest : goal.invariant-loop-rest
-invariant-loop-rest g l = g.S.Timetable.capacity l.store ≡ g.S.Timetable.capacity l.initial.store
+abbrev pub invariant-loop-row : goal.invariant-loop-row
+invariant-loop-row g l = g.S.Timetable.capacity l.store ≡ g.S.Timetable.capacity l.initial.store

@@ -1,5 +1,5 @@
 use Rattle.std.proofs.Common.{◌≡◌}
-use Rattle.departures.proofs.boards.print_turns.Given as goal
+use Rattle.departures.proofs.boards.turned.Given as goal
 
 abbrev pub invariant-loop : goal.invariant-loop
 invariant-loop g l = l.store ≡ l.initial.store

@@ -1,0 +1,132 @@
+// What the words of the command line ask for.
+ghost use Rattle.std.specs.Prelude.{◌≡◌, ◌≤◌, IfOk, option_map};
+ghost use Rattle.forms.specs.Forms.{date_in};
+
+use anyhow::anyhow;
+use forms::numbers::date;
+use std::fmt;
+use std::fmt::{Display, Formatter};
+
+const USAGE: &str =
+    "usage: departures rows FILE... | departures stores CAPACITY FILE... | departures board STORE CAPACITY STATION DATE FILE... | departures extract STORE CAPACITY STATION DATE BASE FILE...";
+
+// How many slots may be asked for.
+const MOST_SLOTS: usize = 65_536;
+
+// Which of the two stores schedules are put into.
+#[derive(Clone, Copy)]
+pub enum StoreKind {
+    Table,
+    Bag,
+}
+
+impl StoreKind {
+    fn from_word(word: &str) -> anyhow::Result<StoreKind> {
+        match word {
+            "table" => Ok(StoreKind::Table),
+            "bag" => Ok(StoreKind::Bag),
+            _ => Err(anyhow!(USAGE)),
+        }
+    }
+}
+
+impl Display for StoreKind {
+    fn fmt<W: fmt::Write>(&self, f: &mut Formatter<W>) -> fmt::Result {
+        f.write_str(match self {
+            StoreKind::Table => "table",
+            StoreKind::Bag => "bag",
+        })
+    }
+}
+
+// A board that is asked for, over a store of so many slots.
+#[derive(Clone, Copy)]
+pub struct Wanted<'a> {
+    pub store: StoreKind,
+    pub slots: usize,
+    pub station: &'a str,
+    pub date: &'a str,
+}
+
+impl<'a> Wanted<'a> {
+    // The number of the day that is wanted, if its date of YYMMDD names one.
+    pub fn day(&self) -> Option<u32>
+        ensures { result ≡ option_map (λ day. day.0) (date_in self.now.date.now) }
+    {
+        date(self.date.as_bytes()).map(|(day, _)| u32::from(day))
+    }
+
+    // What the first four words ask for, and the words after them, of which there is one at least.
+    fn from_words(words: &'a [String]) -> anyhow::Result<(Wanted<'a>, &'a [String])> {
+        match words {
+            [store, capacity, station, date, rest @ ..] if !rest.is_empty() => {
+                let wanted = Wanted {
+                    slots: slots_in(capacity.as_str())?,
+                    store: StoreKind::from_word(store.as_str())?,
+                    station: station.as_str(),
+                    date: date.as_str(),
+                };
+                Ok((wanted, rest))
+            }
+            _ => Err(anyhow!(USAGE)),
+        }
+    }
+}
+
+// The number of slots that is asked for, if there may be so many.
+fn slots_in(capacity: &str) -> anyhow::Result<usize>
+    ensures { IfOk result (λ slots. slots ≤ 65536) }
+{
+    let slots = capacity.parse::<usize>()?;
+    if slots > MOST_SLOTS {
+        return Err(anyhow!(USAGE));
+    }
+    Ok(slots)
+}
+
+// What is done over one store, after the files or the base were put into it.
+#[derive(Clone, Copy)]
+pub enum Work<'a> {
+    Board(&'a [String]),
+    Turns(u64, &'a [String]),
+    Extracts(&'a str, &'a [String]),
+}
+
+// A task with the names of its files.
+#[derive(Clone, Copy)]
+pub enum Task<'a> {
+    Rows(&'a [String]),
+    Stores(usize, &'a [String]),
+    OverStore(Wanted<'a>, Work<'a>),
+}
+
+impl<'a> Task<'a> {
+    // The task that words ask for.
+    pub fn from_words(words: &'a [String]) -> anyhow::Result<Task<'a>> {
+        let [command, rest @ ..] = words else {
+            return Err(anyhow!(USAGE));
+        };
+        match (command.as_str(), rest) {
+            ("rows", [_, ..]) => Ok(Task::Rows(rest)),
+            ("stores", [capacity, files @ ..]) if !files.is_empty() => {
+                Ok(Task::Stores(slots_in(capacity.as_str())?, files))
+            }
+            ("board", _) => {
+                let (wanted, files) = Wanted::from_words(rest)?;
+                Ok(Task::OverStore(wanted, Work::Board(files)))
+            }
+            ("turns", [times, rest @ ..]) => {
+                let times = times.as_str().parse::<u64>()?;
+                let (wanted, files) = Wanted::from_words(rest)?;
+                Ok(Task::OverStore(wanted, Work::Turns(times, files)))
+            }
+            ("extract", _) => match Wanted::from_words(rest)? {
+                (wanted, [base, files @ ..]) if !files.is_empty() => {
+                    Ok(Task::OverStore(wanted, Work::Extracts(base.as_str(), files)))
+                }
+                _ => Err(anyhow!(USAGE)),
+            },
+            _ => Err(anyhow!(USAGE)),
+        }
+    }
+}
