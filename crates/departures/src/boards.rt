@@ -5,7 +5,7 @@ ghost use Rattle.departures.specs.Stations.{filled_up};
 
 use crate::drafts::{Asked, Draft};
 use crate::tasks::Wanted;
-use crate::words::{Text, meaning};
+use crate::words::Text;
 use board::display::Board;
 use board::line::{Line, LineKey};
 use cif::reading::read;
@@ -84,8 +84,7 @@ pub fn filled(rt: &HostRuntime, station: &str) -> Result<Vec<u8>, AllocError>
 // Prints a refusal by its number, after a word or none.
 pub fn print_refused(rt: &HostRuntime, before: &str, refusal: Refusal) -> anyhow::Result<()> {
     let number = refusal.number();
-    let words = meaning(refusal);
-    println!(rt; "{before}refused {number}: {words}")?;
+    println!(rt; "{before}refused {number}: {refusal}")?;
     Ok(())
 }
 

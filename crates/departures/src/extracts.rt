@@ -8,7 +8,7 @@ ghost use Rattle.departures.specs.Handing.{handed};
 use crate::boards::{filled, line_slots, print_refused, shown_lines};
 use crate::rows::Tally;
 use crate::tasks::{StoreKind, Wanted};
-use crate::words::{ChangeWords, FaultWords, Text, meaning, stage_name};
+use crate::words::{ChangeWords, FaultWords, Text, stage_name};
 use board::display::Board;
 use board::line::Line;
 use cif::refusal::Refusal;
@@ -35,8 +35,8 @@ fn hand<S: Store>(controller: &mut Controller<S>, row: &[u8]) -> Result<(), Extr
 fn print_fault(rt: &HostRuntime, number: usize, fault: &ExtractFault) -> anyhow::Result<()> {
     let words = FaultWords(&fault.fault);
     let place = fault.row;
-    let meaning = meaning(fault.fault.fault.refusal);
-    println!(rt; "row {number}: {words}, row {place}: {meaning}")?;
+    let refusal = fault.fault.fault.refusal;
+    println!(rt; "row {number}: {words}, row {place}: {refusal}")?;
     Ok(())
 }
 

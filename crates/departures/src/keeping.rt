@@ -22,7 +22,7 @@ use timetable::{Store, Timetable};
 pub fn empty_record() -> Record
     ensures { is_schedule result ≡ true }
 {
-    let blank = Schedule::blank().to_record();
+    let blank = Record::from(Schedule::blank());
     let key = Key {
         stp: Stp::Cancellation,
         ..blank.key
@@ -164,7 +164,7 @@ fn least<S: Timetable>(store: &mut S, probe: Key) -> Option<Record>
     let key = store.not_before(probe)?;
     let mut place = Schedule::blank();
     if store.find(key, &mut place) {
-        Some(place.to_record())
+        Some(place.into())
     } else {
         None
     }

@@ -3,7 +3,7 @@ ghost use Rattle.std.specs.Prelude.{◌≡◌, ℕ, ◌+◌, ◌<◌, ◌≢◌,
 ghost use Rattle.cif.specs.Refusals.{number_of};
 ghost use Rattle.departures.specs.Tallies.{counted};
 
-use crate::words::{FaultWords, Words, meaning};
+use crate::words::{FaultWords, Words};
 use cif::content::Content;
 use cif::reading::read;
 use cif::refusal::{Refusal, RowFault};
@@ -107,8 +107,8 @@ fn print_row(
         }
         Err(fault) => {
             let words = FaultWords(fault);
-            let meaning = meaning(fault.fault.refusal);
-            println!(rt; "row {number}: {words}: {meaning}")?;
+            let refusal = fault.fault.refusal;
+            println!(rt; "row {number}: {words}: {refusal}")?;
         }
     }
     Ok(())
@@ -154,8 +154,7 @@ pub fn print_outcome(
         let number = refusal.number();
         let count = total.times(refusal);
         if count > 0 {
-            let words = meaning(refusal);
-            println!(rt; "refused {number}: {count} times, {words}")?;
+            println!(rt; "refused {number}: {count} times, {refusal}")?;
         }
     }
     Ok(())

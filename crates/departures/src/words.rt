@@ -248,27 +248,6 @@ impl Display for FaultWords<'_> {
     }
 }
 
-// What a refusal means.
-pub fn meaning(refusal: Refusal) -> &'static str {
-    match refusal {
-        Refusal::RowLength => "the row is not 80 bytes",
-        Refusal::BadByte => "a byte is outside 32 to 126",
-        Refusal::UnknownIdentity => "the identity is not known",
-        Refusal::OutOfPlace => "the row or call does not fit the stage",
-        Refusal::BadForm => "a field lacks its form",
-        Refusal::EndsBeforeStart => "it runs from a later day than it runs to",
-        Refusal::ReferenceMismatch => "the file references do not fit",
-        Refusal::KeyPresent => "the schedule is there already",
-        Refusal::KeyAbsent => "the schedule is not there",
-        Refusal::TooManyCalls => "a 49th kept call",
-        Refusal::TooManyVisits => "a third kept call at one TIPLOC",
-        Refusal::TooManyRows => "too many rows or transactions",
-        Refusal::StoreFull => "the store is full",
-        Refusal::NoSuchBoard => "no such station or day",
-        Refusal::TooFewSlots => "too few line slots",
-    }
-}
-
 pub fn stage_name(stage: Stage) -> &'static str {
     match stage {
         Stage::Idle => "idle",

@@ -110,12 +110,12 @@ fn all_full<S: Store + Drop>(rt: &impl Abort, store: S) {
 
 #[test]
 fn full_over_a_table(rt: HostRuntime) {
-    let mut slots: [Record; 2] = [Schedule::blank().to_record(); 2];
+    let mut slots: [Record; 2] = [Schedule::blank().into(); 2];
     all_full(&rt, Table::new(&mut slots));
 }
 
 #[test]
 fn full_over_a_bag(rt: HostRuntime) {
-    let mut slots: [Record; 2] = [Schedule::blank().to_record(); 2];
+    let mut slots: [Record; 2] = [Schedule::blank().into(); 2];
     all_full(&rt, Bag::new(&mut slots));
 }

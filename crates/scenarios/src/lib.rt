@@ -20,7 +20,7 @@ pub fn record(uid: u32, from: u16, stp: Stp, to: u16) -> Record
         to,
         days: [true; 7],
         train: *b"1A23",
-        ..Schedule::blank().to_record()
+        ..Schedule::blank().into()
     }
 }
 
@@ -28,7 +28,7 @@ pub fn record(uid: u32, from: u16, stp: Stp, to: u16) -> Record
 pub fn one_day(uid: u32, day: u16) -> Option<Schedule>
     ensures { let r = sample (record { uid = uid; from = day; stp = Permanent }) day in MatchOption result (is_schedule r ≡ false) (λ s. s.plain ≡ r) }
 {
-    Schedule::from_record(record(uid, day, Stp::Permanent, day))
+    Schedule::try_from(record(uid, day, Stp::Permanent, day)).ok()
 }
 
 // A permanent schedule of a train that runs every day of a time, if it is one.
@@ -133,6 +133,6 @@ mod tests {
         assert!(rt; one_day(2_600_000, 1).is_none());
         assert!(rt; one_day(2_599_999, 36_525).is_none());
         assert!(rt; one_day(2_599_999, 36_524).is_some());
-        assert!(rt; Schedule::from_record(record(1, 2, Stp::Permanent, 1)).is_none());
+        assert!(rt; Schedule::try_from(record(1, 2, Stp::Permanent, 1)).is_err());
     }
 }
