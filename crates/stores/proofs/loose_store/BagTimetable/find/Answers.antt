@@ -9,7 +9,7 @@ use Rattle.stores.proofs.loose_store.BagTimetable.find.Goals as goal
 
 pub returns-in-Some-from_record : goal.returns-in-Some-from_record
 returns-in-Some-from_record c =
-    let there = c.in-Some.ensures.value c.args.self.now.fits ∙ map_finds (in_any_order c.args.self.now.rows) c.args.key in
+    let there = c.in-Some.ensures.value ∙ map_finds (in_any_order c.args.self.now.rows) c.args.key in
     record {
       found = ap is_some there;
       copied = c.in-Some-from_record.ensures.0 ∙ ap (λ o. unwrap_or o c.args.place.now.plain) there;
@@ -19,12 +19,12 @@ returns-in-Some-from_record c =
 
 pub returns-in-None-from_record : goal.returns-in-None-from_record
 returns-in-None-from_record c =
-    let there = c.in-Some.ensures.value c.args.self.now.fits ∙ map_finds (in_any_order c.args.self.now.rows) c.args.key in
+    let there = c.in-Some.ensures.value ∙ map_finds (in_any_order c.args.self.now.rows) c.args.key in
     absurd (both_ways (is_schedule c.in-Some.plain) c.in-None-from_record.ensures (found_valid (map_of (in_any_order c.args.self.now.rows)) c.args.key c.in-Some.plain c.args.self.now.valid there))
 
 pub returns-in-None : goal.returns-in-None
 returns-in-None c =
-    let absent = c.in-None.ensures.value c.args.self.now.fits ∙ map_finds (in_any_order c.args.self.now.rows) c.args.key in
+    let absent = c.in-None.ensures.value ∙ map_finds (in_any_order c.args.self.now.rows) c.args.key in
     record {
       found = ap is_some absent;
       copied = ap (λ o. unwrap_or o c.args.place.now.plain) absent;

@@ -8,7 +8,7 @@ use Rattle.stores.proofs.ordered_store.TableTimetable.find.Goals as goal
 
 pub returns-in-Some-from_record : goal.returns-in-Some-from_record
 returns-in-Some-from_record c =
-    let there = c.in-Some.ensures.value (c.args.self.now.fits, c.args.self.now.rising) in
+    let there = c.in-Some.ensures.value in
     record {
       found = ap is_some there;
       copied = c.in-Some-from_record.ensures.0 ∙ ap (λ o. unwrap_or o c.args.place.now.plain) there;
@@ -18,12 +18,12 @@ returns-in-Some-from_record c =
 
 pub returns-in-None-from_record : goal.returns-in-None-from_record
 returns-in-None-from_record c =
-    let there = c.in-Some.ensures.value (c.args.self.now.fits, c.args.self.now.rising) in
+    let there = c.in-Some.ensures.value in
     absurd (both_ways (is_schedule c.in-Some.plain) c.in-None-from_record.ensures (found_valid (in_order c.args.self.now.rows) c.args.key c.in-Some.plain c.args.self.now.valid there))
 
 pub returns-in-None : goal.returns-in-None
 returns-in-None c =
-    let absent = c.in-None.ensures.value (c.args.self.now.fits, c.args.self.now.rising) in
+    let absent = c.in-None.ensures.value in
     record {
       found = ap is_some absent;
       copied = ap (λ o. unwrap_or o c.args.place.now.plain) absent;
