@@ -1,2 +1,2 @@
-pub mod Edges
 pub mod Piles
+pub mod Whole

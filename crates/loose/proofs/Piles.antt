@@ -1,108 +1,92 @@
 -- What became of elements in any order after a search and a change at the place that it found.
-use Rattle.std.proofs.Common.{◌≡◌, ℕ, ◌+◌, ◌-◌, ◌<◌, ◌≤◌, Bool, true, false, ◌||◌, ltb, List, [], ◌∷◌, ◌++◌, length, get_or, take, set, is_some, Some, None, sym, ap, ◌∙◌, subst, arith}
-use Rattle.std.proofs.lemmas.List.{length-take-le, take_more}
-use Rattle.std.proofs.lemmas.Bool.{lt-ltb, le-ltb}
+use Rattle.std.proofs.Common.{◌≡◌, ℕ, ◌+◌, ◌-◌, ◌<◌, Bool, true, false, cond, ◌||◌, nat_lt, List, [], ◌∷◌, ◌++◌, length, get_or, slice_get, take, set, is_some, None, sym, refl, ap, ◌∙◌, subst, arith}
+use Rattle.std.proofs.lemmas.List.{take_more, take_all}
+use Rattle.std.proofs.lemmas.Option.{slice_get-get_or}
 use Rattle.maps.specs.Orders.{Lawful}
-use Rattle.maps.specs.Maps.{lookup, gathered, apart, excluding}
+use Rattle.maps.specs.Maps.{lookup, gathered, apart, including, excluding}
 use Rattle.maps.specs.Places.{Passed, Found}
 use Rattle.maps.proofs.Maps.{lookup_gathered, ascending_gathered, excluding_absent}
 use Rattle.maps.proofs.Heaped.{passed_lookup, found_lookup, length_gathered, gathered_push, apart_push, gathered_set, apart_set, gathered_swap, apart_swap}
-use Rattle.ordered.specs.declared.slots.Slots.{Slots}
-use Rattle.ordered.specs.Tables.{items, room, Put, Removed}
+use Rattle.ordered.specs.Tables.{Put, Removed}
 
-module _ {E K : Type 0} (before : K → K → Bool) (key : E → K) (lawful : Lawful before) (s m : Slots E) (same : m ≡ s) (fits : s.len ≤ length s.slots.now) where
-  long : length (items s) ≡ s.len
-  long = length-take-le s.len s.slots.now fits
+module _ {E K : Type 0} (before : K → K → Bool) (key : E → K) (lawful : Lawful before) where
+  -- the element at the place that a search found
+  pub found_get : (xs : List E) (i : ℕ) (k : K) → Found before key xs k i → slice_get xs i ≡ lookup before key xs k
+  found_get [] i k h = let w = h.within in absurd (let z : ⊥ = omega arith in z)
+  found_get (y ∷ ys) i k h = slice_get-get_or (y ∷ ys) i y h.within ∙ sym (found_lookup before key lawful (y ∷ ys) k i y h.within h.passed (h.is y))
 
-  -- the map that the elements make up
-  abbrev map : Slots E → List E
-  map t = gathered before key (items t)
+  some_there : (xs : List E) (k : K) (i : ℕ) → Found before key xs k i → is_some (lookup before key xs k) ≡ true
+  some_there [] k i h = let w = h.within in absurd (let z : ⊥ = omega arith in z)
+  some_there (y ∷ ys) k i h = ap is_some (found_lookup before key lawful (y ∷ ys) k i y h.within h.passed (h.is y))
 
-  pub found_is : (i : ℕ) (k : K) (r : E) → Found before key (items s) k i → ((d : E) → r ≡ get_or (items m) i d) → Some r ≡ lookup before key (items s) k
-  found_is i k r h v =
-      ap (λ x. Some x) (v r ∙ ap (λ u. get_or (items u) i r) same) ∙ sym (found_lookup before key lawful (items s) k i r h.within h.passed (h.is r))
+  -- an element in the place of the one of its key
+  pub put_found : (xs ys : List E) (x : E) (k : K) (i n : ℕ) → k ≡ key x → Found before key xs k i → ys ≡ set xs i x → Put before key (gathered before key xs) (gathered before key ys) n x true
+  put_found xs ys x k i n of h e = record {
+    done = sym (ap (λ b. b || nat_lt (length (gathered before key xs)) n) (ap is_some (lookup_gathered before key lawful xs (key x) ∙ ap (lookup before key xs) (sym of)) ∙ some_there xs k i h));
+    gives = ap (gathered before key) e ∙ gathered_set before key lawful xs i x x h.within (subst (λ (c : K). Passed before key xs c i) of h.passed) (h.is x ∙ of);
+  }
 
-  pub none_is : (k : K) → Passed before key (items s) k s.len → lookup before key (items s) k ≡ None
-  none_is k h = passed_lookup before key lawful (items s) k (λ j d l. h j d (let q = long in omega arith))
+  pub found_apart : (xs ys : List E) (x : E) (k : K) (i : ℕ) → k ≡ key x → Found before key xs k i → ys ≡ set xs i x → apart before key xs ≡ true → apart before key ys ≡ true
+  found_apart xs ys x k i of h e a = ap (apart before key) e ∙ apart_set before key lawful xs i x x h.within (subst (λ (c : K). Passed before key xs c i) of h.passed) (h.is x ∙ of) a
 
-  some_there : (k : K) (i : ℕ) → Found before key (items s) k i → is_some (lookup before key (items s) k) ≡ true
-  some_there k i h = there (items s) h.within (λ d. found_lookup before key lawful (items s) k i d h.within h.passed (h.is d))
+  absent : (xs : List E) (x : E) (k : K) → k ≡ key x → Passed before key xs k (length xs) → lookup before key xs (key x) ≡ None
+  absent xs x k of h = ap (lookup before key xs) (sym of) ∙ passed_lookup before key lawful xs k h
+
+  -- an element after the others, where there is room
+  pub put_passed : (xs ys : List E) (x : E) (k : K) (n : ℕ) (r : Bool) → apart before key xs ≡ true → k ≡ key x → Passed before key xs k (length xs) → r ≡ nat_lt (length xs) n → (r ≡ true → ys ≡ xs ++ x ∷ []) → (r ≡ false → ys ≡ xs) → Put before key (gathered before key xs) (gathered before key ys) n x r
+  put_passed xs ys x k n r a of h d added kept = record {
+    done =
+        d
+        ∙ ap (λ m. nat_lt m n) (sym (length_gathered before key lawful xs a))
+        ∙ sym (ap (λ o. is_some o || nat_lt (length (gathered before key xs)) n) (lookup_gathered before key lawful xs (key x) ∙ absent xs x k of h));
+    gives = either r added kept;
+  }
     where
-      there : (xs : List E) → i < length xs → ((d : E) → lookup before key (items s) k ≡ Some (get_or (items s) i d)) → is_some (lookup before key (items s) k) ≡ true
-      there [] l f = absurd (let z : ⊥ = omega arith in z)
-      there (y ∷ ys) l f = ap is_some (f y)
+      either : (b : Bool) → (b ≡ true → ys ≡ xs ++ x ∷ []) → (b ≡ false → ys ≡ xs) → gathered before key ys ≡ cond b (including before key (gathered before key xs) x) (gathered before key xs)
+      either true p q = ap (gathered before key) (p refl) ∙ gathered_push before key lawful xs x (absent xs x k of h)
+      either false p q = ap (gathered before key) (q refl)
 
-  module _ (x : E) (k : K) (of : k ≡ key x) where
-    in_map : lookup before key (map s) (key x) ≡ lookup before key (items s) k
-    in_map = lookup_gathered before key lawful (items s) (key x) ∙ ap (lookup before key (items s)) (sym of)
+  pub passed_apart : (xs ys : List E) (x : E) (k : K) (r : Bool) → apart before key xs ≡ true → k ≡ key x → Passed before key xs k (length xs) → (r ≡ true → ys ≡ xs ++ x ∷ []) → (r ≡ false → ys ≡ xs) → apart before key ys ≡ true
+  passed_apart xs ys x k true a of h added kept = ap (apart before key) (added refl) ∙ apart_push before key lawful xs x (absent xs x k of h) a
+  passed_apart xs ys x k false a of h added kept = ap (apart before key) (kept refl) ∙ a
 
-    pub replaced : (u : Slots E) (i : ℕ) → Found before key (items s) k i → items u ≡ set (items m) i x → apart before key (items s) ≡ true → Put before key (map s) (map u) (room s) x true × (apart before key (items u) ≡ true)
-    replaced u i h e a =
-        let all : items u ≡ set (items s) i x = e ∙ ap (λ t. set (items t) i x) same in
-        let p = subst (λ (c : K). Passed before key (items s) c i) of h.passed in (
-          record {
-            done = sym (ap (λ b. b || ltb (length (map s)) (room s)) (ap is_some in_map ∙ some_there k i h));
-            gives = ap (gathered before key) all ∙ gathered_set before key lawful (items s) i x x h.within p (h.is x ∙ of);
-          },
-          ap (apart before key) all ∙ apart_set before key lawful (items s) i x x h.within p (h.is x ∙ of) a,
-        )
-
-    room_none : (b : Bool) → apart before key (items s) ≡ true → Passed before key (items s) k s.len → ltb s.len (room s) ≡ b → b ≡ (is_some (lookup before key (map s) (key x)) || ltb (length (map s)) (room s))
-    room_none b a h r =
-        sym r
-        ∙ ap (λ n. ltb n (room s)) (sym (length_gathered before key lawful (items s) a ∙ long))
-        ∙ sym (ap (λ o. is_some o || ltb (length (map s)) (room s)) (in_map ∙ none_is k h))
-
-    pub pushed : (u : Slots E) → Passed before key (items s) k s.len → m.len < length m.slots.now → items u ≡ items m ++ x ∷ [] → apart before key (items s) ≡ true → Put before key (map s) (map u) (room s) x true × (apart before key (items u) ≡ true)
-    pushed u h r e a =
-        let p = ap (λ t. t.len) same in
-        let q = ap room same in
-        let all : items u ≡ items s ++ x ∷ [] = e ∙ ap (λ t. items t ++ x ∷ []) same in
-        let none : lookup before key (items s) (key x) ≡ None = ap (lookup before key (items s)) (sym of) ∙ none_is k h in (
-          record {
-            done = room_none true a h (lt-ltb s.len (room s) (omega arith));
-            gives = ap (gathered before key) all ∙ gathered_push before key lawful (items s) x none;
-          },
-          ap (apart before key) all ∙ apart_push before key lawful (items s) x none a,
-        )
-
-    pub refused : Passed before key (items s) k s.len → length m.slots.now ≤ m.len → apart before key (items s) ≡ true → Put before key (map s) (map m) (room s) x false
-    refused h r a =
-        let p = ap (λ t. t.len) same in
-        let q = ap room same in
-        record { done = room_none false a h (le-ltb s.len (room s) (omega arith)); gives = ap map same }
-
-  pub not_there : (k : K) → Passed before key (items s) k s.len → Removed before key (map s) (map m) k false
-  not_there k h =
-      let none = lookup_gathered before key lawful (items s) k ∙ none_is k h in
+  pub removed_passed : (xs ys : List E) (k : K) → Passed before key xs k (length xs) → ys ≡ xs → Removed before key (gathered before key xs) (gathered before key ys) k false
+  removed_passed xs ys k h e =
+      let none = lookup_gathered before key lawful xs k ∙ passed_lookup before key lawful xs k h in
       record {
         done = sym (ap is_some none);
-        gives = ap map same ∙ sym (excluding_absent before key lawful (map s) k (ascending_gathered before key lawful (items s)) none);
+        gives = ap (gathered before key) e ∙ sym (excluding_absent before key lawful (gathered before key xs) k (ascending_gathered before key lawful xs) none);
       }
 
   -- the last element in the place of the one that goes
-  pub taken_out : (u : Slots E) (k : K) (i : ℕ) → Found before key (items s) k i → ((d : E) → items u ≡ set (take (m.len - 1) m.slots.now) i (get_or m.slots.now (m.len - 1) d)) → apart before key (items s) ≡ true → Removed before key (map s) (map u) k true × (apart before key (items u) ≡ true)
-  taken_out u k i h w a = some_of s.slots.now (let f = h.within in let q = long in omega arith) (λ d. swapped d)
-    where
-      some_of : (xs : List E) → 0 < length xs → ((d : E) → Removed before key (map s) (map u) k true × (apart before key (items u) ≡ true)) → Removed before key (map s) (map u) k true × (apart before key (items u) ≡ true)
-      some_of [] l f = absurd (let z : ⊥ = omega arith in z)
-      some_of (y ∷ ys) l f = f y
+  module _ (xs ys : List E) (k : K) (i : ℕ) (h : Found before key xs k i) (swapped : (d : E) → ys ≡ set (take (length xs - 1) xs) i (get_or xs (length xs - 1) d)) (a : apart before key xs ≡ true) where
+    abbrev front : List E
+    front = take (length xs - 1) xs
 
-      swapped : (d : E) → Removed before key (map s) (map u) k true × (apart before key (items u) ≡ true)
-      swapped d =
-          let xs : List E = s.slots.now in
-          let zs : List E = take (s.len - 1) xs in
-          let l : E = get_or xs (s.len - 1) d in
-          let inside = h.within in
-          let q = long in
-          let split : items s ≡ zs ++ l ∷ [] = (let o : s.len ≡ (s.len - 1) + 1 = omega arith in ap (λ j. take j xs) o ∙ take_more xs (s.len - 1) d (omega arith)) in
-          let all : items u ≡ set zs i l = w d ∙ ap (λ t. set (take (t.len - 1) t.slots.now) i (get_or t.slots.now (t.len - 1) d)) same in
-          let kept : apart before key (zs ++ l ∷ []) ≡ true = ap (apart before key) (sym split) ∙ a in
-          let within : i < length (zs ++ l ∷ []) = subst (λ (ys : List E). i < length ys) split inside in
-          let is : key (get_or (zs ++ l ∷ []) i d) ≡ k = ap (λ ys. key (get_or ys i d)) (sym split) ∙ h.is d in (
-            record {
-              done = sym (ap is_some (lookup_gathered before key lawful (items s) k) ∙ some_there k i h);
-              gives = ap (gathered before key) all ∙ gathered_swap before key lawful zs l i d k kept within is ∙ ap (λ ys. excluding before key (gathered before key ys) k) (sym split);
-            },
-            ap (apart before key) all ∙ apart_swap before key lawful zs l i kept within,
-          )
+    split : (d : E) → xs ≡ front ++ get_or xs (length xs - 1) d ∷ []
+    split d =
+        let w = h.within in
+        let o : length xs ≡ (length xs - 1) + 1 = omega arith in
+        sym (take_all (length xs) xs (omega arith)) ∙ ap (λ j. take j xs) o ∙ take_more xs (length xs - 1) d (omega arith)
+
+    within : (d : E) → i < length (front ++ get_or xs (length xs - 1) d ∷ [])
+    within d = subst (λ (zs : List E). i < length zs) (split d) h.within
+
+    kept : (d : E) → apart before key (front ++ get_or xs (length xs - 1) d ∷ []) ≡ true
+    kept d = ap (apart before key) (sym (split d)) ∙ a
+
+    some_of : (P : Type 0) (zs : List E) → 0 < length zs → ((d : E) → P) → P
+    some_of P [] l f = absurd (let z : ⊥ = omega arith in z)
+    some_of P (y ∷ zs) l f = f y
+
+    pub removed_found : Removed before key (gathered before key xs) (gathered before key ys) k true
+    removed_found = record {
+      done = sym (ap is_some (lookup_gathered before key lawful xs k) ∙ some_there xs k i h);
+      gives = some_of _ xs (let w = h.within in omega arith) (λ d.
+          ap (gathered before key) (swapped d)
+          ∙ gathered_swap before key lawful front (get_or xs (length xs - 1) d) i d k (kept d) (within d) (ap (λ zs. key (get_or zs i d)) (sym (split d)) ∙ h.is d)
+          ∙ ap (λ zs. excluding before key (gathered before key zs) k) (sym (split d)));
+    }
+
+    pub swap_apart : apart before key ys ≡ true
+    swap_apart = some_of _ xs (let w = h.within in omega arith) (λ d. ap (apart before key) (swapped d) ∙ apart_swap before key lawful front (get_or xs (length xs - 1) d) i (kept d) (within d))

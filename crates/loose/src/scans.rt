@@ -1,23 +1,25 @@
 // Searches from the first element to the last.
-ghost use Rattle.std.specs.Prelude.{◌≡◌, ℕ, ◌+◌, ◌-◌, ◌<◌, ◌≤◌, Bool, true, false, length, take, MatchOption};
+ghost use Rattle.std.specs.Prelude.{◌≡◌, ℕ, Bool, true, false, length, MatchOption};
+ghost use Rattle.maps.specs.Orders.{same};
 ghost use Rattle.maps.specs.Maps.{lower, ceiling, gathered};
 ghost use Rattle.maps.specs.Places.{Passed, Found};
 
 use ordered::keys::{KeyOrder, Keyed};
 
-// The place of the first element of `key`.
-pub(crate) fn scan<E: Keyed>(slots: &mut [E], len: usize, key: E::Key) -> Option<usize>
-    requires { len ≤ length slots.old }
-    ensures same { slots.new ≡ slots.old }
-    ensures place { MatchOption result (Passed E.Key.KeyOrder.before E.Keyed.keyed (take len slots.old) key len) (Found E.Key.KeyOrder.before E.Keyed.keyed (take len slots.old) key) }
+// Whether two keys are one.
+fn is_same<K: KeyOrder>(a: K, b: K) -> bool
+    ensures { result ≡ same K.KeyOrder.before a b }
 {
-    for i in 0..len {
-        let there = slots[i].key();
-        if !there.is_before(&key) && !key.is_before(&there) {
-            return Some(i);
-        }
-    }
-    None
+    !a.is_before(&b) && !b.is_before(&a)
+}
+
+// The place of the first element of `key`.
+pub(crate) fn scan<E: Keyed>(elements: &[E], key: E::Key) -> Option<usize>
+    ensures { MatchOption result (Passed E.Key.KeyOrder.before E.Keyed.keyed elements.now key (length elements.now)) (Found E.Key.KeyOrder.before E.Keyed.keyed elements.now key) }
+{
+    elements
+        .iter()
+        .position(|element| is_same(element.key(), key))
 }
 
 // The lower of `a` and `best`.
@@ -25,25 +27,21 @@ fn lower_of<K: KeyOrder>(a: K, best: Option<K>) -> Option<K>
     ensures { result ≡ lower K.KeyOrder.before a best }
 {
     match best {
-        Some(b) => if b.is_before(&a) { Some(b) } else { Some(a) },
-        None => Some(a),
+        Some(b) if b.is_before(&a) => best,
+        _ => Some(a),
     }
 }
 
 // The lowest key that is not before `probe`.
-pub(crate) fn lowest<E: Keyed>(slots: &mut [E], len: usize, probe: E::Key) -> Option<E::Key>
-    requires { len ≤ length slots.old }
-    ensures same { slots.new ≡ slots.old }
-    ensures value { result ≡ ceiling E.Key.KeyOrder.before E.Keyed.keyed (gathered E.Key.KeyOrder.before E.Keyed.keyed (take len slots.old)) probe }
+pub(crate) fn lowest<E: Keyed>(elements: &[E], probe: E::Key) -> Option<E::Key>
+    ensures { result ≡ ceiling E.Key.KeyOrder.before E.Keyed.keyed (gathered E.Key.KeyOrder.before E.Keyed.keyed elements.now) probe }
 {
-    let mut best = None;
-    let mut i = len;
-    while i > 0 {
-        i -= 1;
-        let there = slots[i].key();
-        if !there.is_before(&probe) {
-            best = lower_of(there, best);
+    elements.iter().fold(None, |best, element| {
+        let there = element.key();
+        if there.is_before(&probe) {
+            best
+        } else {
+            lower_of(there, best)
         }
-    }
-    best
+    })
 }

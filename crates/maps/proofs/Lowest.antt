@@ -1,9 +1,7 @@
 -- The lowest key that is not before another, of a map with one entry more.
-use Rattle.std.proofs.Common.{◌≡◌, ℕ, ◌+◌, ◌-◌, ◌<◌, ◌≤◌, Bool, true, false, cond, List, [], ◌∷◌, length, get_or, take, drop, Some, None, Option, sym, refl, ap, ◌∙◌, inl, inr, arith}
+use Rattle.std.proofs.Common.{◌≡◌, Bool, true, false, cond, List, [], ◌∷◌, ◌++◌, Some, None, Option, sym, refl, ap, ◌∙◌, inl, inr}
 use Rattle.std.proofs.lemmas.Bool.{cases_Bool, both_ways, and_parts}
-use Rattle.std.proofs.lemmas.List.{drop_more, drop_all, get_or-take, get_or_default, length-take-le}
-use Rattle.maps.specs.Orders.{Lawful, same}
-use Rattle.maps.specs.Places.{Passed, Found}
+use Rattle.maps.specs.Orders.{Lawful}
 use Rattle.maps.specs.Maps.{after, ascending, including, ceiling, gathered, lower}
 use Rattle.maps.proofs.Maps.{first, last, level, stand, asymmetric, after_head, ascending_gathered}
 
@@ -45,36 +43,46 @@ module _ {E K : Type 0} (before : K → K → Bool) (key : E → K) (lawful : La
   pub ceiling_gathered : (xs : List E) (x : E) (k : K) → ceiling before key (gathered before key (x ∷ xs)) k ≡ cond (before (key x) k) (ceiling before key (gathered before key xs) k) (lower before (key x) (ceiling before key (gathered before key xs) k))
   ceiling_gathered xs x k = ceiling_including (gathered before key xs) x k (ascending_gathered before key lawful xs)
 
-  -- A loop from the end of the first n elements down.
-  module _ (xs : List E) (n : ℕ) (fits : n ≤ length xs) (k : K) where
-    pub lowest_none : None ≡ ceiling before key (gathered before key (drop n (take n xs))) k
-    lowest_none = ap (λ t. ceiling before key (gathered before key t) k) (sym (drop_all n (take n xs) (let q = length-take-le n xs fits in omega arith)))
+  -- what is not after c is before all that c is before
+  before_more : (x y c : K) → before c x ≡ false → before c y ≡ true → before x y ≡ true
+  before_more x y c n h = elim (stand before key lawful x c) [
+    | first p r ↦ lawful.transitive x c y p h
+    | last p r ↦ absurd (both_ways (before c x) n r)
+    | level p r e ↦ ap (λ w. before w y) e ∙ h
+  ]
 
-    drop_down : (i : ℕ) (e : E) → 0 < i → i ≤ n → drop (i - 1) (take n xs) ≡ get_or xs (i - 1) e ∷ drop i (take n xs)
-    drop_down i e p l =
-        let q = length-take-le n xs fits in
-        let s : (i - 1) + 1 ≡ i = omega arith in
-        drop_more (take n xs) (i - 1) e (omega arith)
-        ∙ ap (λ x. x ∷ drop ((i - 1) + 1) (take n xs)) (get_or-take n xs (i - 1) e (omega arith))
-        ∙ ap (λ m. get_or xs (i - 1) e ∷ drop m (take n xs)) s
+  -- of two keys, whichever is asked first
+  lower_two : (a b : K) → lower before a (Some b) ≡ lower before b (Some a)
+  lower_two a b = elim (stand before key lawful a b) [
+    | first p r ↦ rw (p, r) refl
+    | last p r ↦ rw (p, r) refl
+    | level p r e ↦ rw (p, r) (ap (λ x. Some x) e)
+  ]
 
-    pub lowest_kept : (i : ℕ) (e : E) (best : Option K) → 0 < i → i ≤ n → before (key (get_or xs (i - 1) e)) k ≡ true → best ≡ ceiling before key (gathered before key (drop i (take n xs))) k → best ≡ ceiling before key (gathered before key (drop (i - 1) (take n xs))) k
-    lowest_kept i e best p l t h =
-        h
-        ∙ sym (ap (λ t. ceiling before key (gathered before key t) k) (drop_down i e p l) ∙ ceiling_gathered (drop i (take n xs)) (get_or xs (i - 1) e) k ∙ ap (λ b. cond b (ceiling before key (gathered before key (drop i (take n xs))) k) (lower before (key (get_or xs (i - 1) e)) (ceiling before key (gathered before key (drop i (take n xs))) k))) t)
+  lower_either : (a b : K) (o : Option K) → lower before a (lower before b o) ≡ lower before b (lower before a o)
+  lower_either a b None = lower_two a b
+  lower_either a b (Some c) = elim (cases_Bool (before c b)) [
+    | inl t ↦ rw t (elim (cases_Bool (before c a)) [
+      | inl u ↦ rw (u, t) refl
+      | inr u ↦ rw u (let q = before_more a b c u t in rw q refl)
+    ])
+    | inr t ↦ rw t (elim (cases_Bool (before c a)) [
+      | inl u ↦ rw u (let q = before_more b a c t u in rw (t, q) refl)
+      | inr u ↦ rw u (lower_two a b)
+    ])
+  ]
 
-    pub lowest_new : (i : ℕ) (e : E) (best new : Option K) → 0 < i → i ≤ n → before (key (get_or xs (i - 1) e)) k ≡ false → best ≡ ceiling before key (gathered before key (drop i (take n xs))) k → new ≡ lower before (key (get_or xs (i - 1) e)) best → new ≡ ceiling before key (gathered before key (drop (i - 1) (take n xs))) k
-    lowest_new i e best new p l t h m =
-        m
-        ∙ ap (lower before (key (get_or xs (i - 1) e))) h
-        ∙ sym (ap (λ t. ceiling before key (gathered before key t) k) (drop_down i e p l) ∙ ceiling_gathered (drop i (take n xs)) (get_or xs (i - 1) e) k ∙ ap (λ b. cond b (ceiling before key (gathered before key (drop i (take n xs))) k) (lower before (key (get_or xs (i - 1) e)) (ceiling before key (gathered before key (drop i (take n xs))) k))) t)
+  swap_either : (a b : Bool) (x y : K) (o : Option K) → cond a (cond b o (lower before y o)) (lower before x (cond b o (lower before y o))) ≡ cond b (cond a o (lower before x o)) (lower before y (cond a o (lower before x o)))
+  swap_either true true x y o = refl
+  swap_either true false x y o = refl
+  swap_either false true x y o = refl
+  swap_either false false x y o = lower_either x y o
 
-    pub passed_front : (i : ℕ) → i ≤ n → Passed before key xs k i → Passed before key (take n xs) k i
-    passed_front i l h j d m = ap (λ x. same before (key x) k) (get_or-take n xs j d (omega arith)) ∙ h j d m
-
-    pub found_front : (i : ℕ) (e : E) → i < n → Passed before key xs k i → before (key (get_or xs i e)) k ≡ false → before k (key (get_or xs i e)) ≡ false → Found before key (take n xs) k i
-    found_front i e l h p q = record {
-      within = let w = length-take-le n xs fits in omega arith;
-      passed = passed_front i (omega arith) h;
-      is = λ d. let w : i < length xs = omega arith in ap key (get_or-take n xs i d l ∙ get_or_default xs i d e w) ∙ lawful.total (key (get_or xs i e)) k p q;
-    }
+  -- One entry more at the end of a pile.
+  pub ceiling_push : (xs : List E) (x : E) (k : K) → ceiling before key (gathered before key (xs ++ x ∷ [])) k ≡ cond (before (key x) k) (ceiling before key (gathered before key xs) k) (lower before (key x) (ceiling before key (gathered before key xs) k))
+  ceiling_push [] x k = refl
+  ceiling_push (y ∷ ys) x k =
+      ceiling_gathered (ys ++ x ∷ []) y k
+      ∙ ap (λ o. cond (before (key y) k) o (lower before (key y) o)) (ceiling_push ys x k)
+      ∙ swap_either (before (key y) k) (before (key x) k) (key y) (key x) (ceiling before key (gathered before key ys) k)
+      ∙ sym (ap (λ o. cond (before (key x) k) o (lower before (key x) o)) (ceiling_gathered ys y k))

@@ -35,4 +35,11 @@ impl<E> Slots<'_, E> {
     {
         self.slots.len()
     }
+
+    // The elements that are held.
+    pub fn held(&self) -> &[E]
+        ensures { result.now ≡ items self.now }
+    {
+        &self.slots[..self.len]
+    }
 }

@@ -2,7 +2,7 @@
 ghost use Rattle.std.specs.Prelude.{◌≡◌, ◌≤◌, true};
 ghost use Rattle.ordered.specs.Tables.{room};
 ghost use Rattle.schedule.specs.Records.{every_schedule};
-ghost use Rattle.stores.specs.Tables.{in_any_order, distinct, map_of};
+ghost use Rattle.stores.specs.Tables.{in_any_order, map_of};
 
 use loose::loose::Loose;
 use schedule::record::Record;
@@ -11,8 +11,6 @@ use schedule::record::Record;
 #[derive(Drop)]
 pub struct Bag<'a> {
     pub(crate) rows: Loose<'a, Record>,
-    ghost fits: { rows.inner.len ≤ room rows.inner },
     ghost small: { room rows.inner ≤ 65535 },
-    ghost apart: { distinct (in_any_order rows) ≡ true },
     ghost valid: { every_schedule (map_of (in_any_order rows)) ≡ true },
 }

@@ -20,16 +20,11 @@ impl Timetable for Bag<'_> {
     }
 
     fn find(&mut self, key: Key, place: &mut Schedule) -> bool {
-        match self.rows.find(key) {
-            Some(plain) => match Schedule::from_record(plain) {
-                Some(schedule) => {
-                    *place = schedule;
-                    true
-                }
-                None => false,
-            },
-            None => false,
+        if let Some(schedule) = self.rows.find(key).and_then(Schedule::from_record) {
+            *place = schedule;
+            return true;
         }
+        false
     }
 
     fn not_before(&mut self, probe: Key) -> Option<Key> {

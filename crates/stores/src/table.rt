@@ -2,7 +2,7 @@
 ghost use Rattle.std.specs.Prelude.{◌≡◌, ◌≤◌, true};
 ghost use Rattle.ordered.specs.Tables.{room};
 ghost use Rattle.schedule.specs.Records.{every_schedule};
-ghost use Rattle.stores.specs.Tables.{in_order, rises};
+ghost use Rattle.stores.specs.Tables.{in_order};
 
 use ordered::ordered::Ordered;
 use schedule::record::Record;
@@ -11,8 +11,6 @@ use schedule::record::Record;
 #[derive(Drop)]
 pub struct Table<'a> {
     pub(crate) rows: Ordered<'a, Record>,
-    ghost fits: { rows.inner.len ≤ room rows.inner },
     ghost small: { room rows.inner ≤ 65535 },
-    ghost rising: { rises (in_order rows) ≡ true },
     ghost valid: { every_schedule (in_order rows) ≡ true },
 }

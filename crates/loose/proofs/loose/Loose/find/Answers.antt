@@ -1,20 +1,22 @@
-use Rattle.std.proofs.Common.{sym, ap, ◌∙◌}
-use Rattle.loose.proofs.Piles.{found_is, none_is}
-use Rattle.maps.specs.Orders.{Lawful}
-use Rattle.loose.proofs.loose.Loose.find.Given as given
+use Rattle.std.proofs.Common.{slice_get, sym, ap, ◌∙◌}
+use Rattle.maps.specs.Maps.{lookup}
+use Rattle.maps.proofs.Heaped.{passed_lookup}
+use Rattle.ordered.proofs.Laws.{lawful}
+use Rattle.loose.proofs.Piles.{found_get}
+use Rattle.loose.proofs.Whole.{same_loose}
 use Rattle.loose.proofs.loose.Loose.find.Goals as goal
 
-lawful : (g : given.Over) → Lawful g.E.Key.KeyOrder.before
-lawful g = record { irreflexive = g.met.E.Key.KeyOrder.irreflexive; transitive = g.met.E.Key.KeyOrder.transitive; total = g.met.E.Key.KeyOrder.total }
+pub returns-in-Some-clause-value : goal.returns-in-Some-clause-value
+returns-in-Some-clause-value g c =
+    c.get.ensures.value
+    ∙ ap (λ xs. slice_get xs c.in-Some.place) (sym c.held.ensures)
+    ∙ found_get g.E.Key.KeyOrder.before g.E.Keyed.keyed (lawful g.met.E.Key.KeyOrder) _ _ _ c.in-Some.ensures
+    ∙ ap (λ xs. lookup g.E.Key.KeyOrder.before g.E.Keyed.keyed xs c.args.key) c.held.ensures
 
-pub returns-in-Some : goal.returns-in-Some
-returns-in-Some g c = record {
-  value = λ fits. found_is g.E.Key.KeyOrder.before g.E.Keyed.keyed (lawful g) c.args.self.now.inner c.place_of.new.pile c.in-Some.ensures.same fits c.in-Some.place c.args.key c.at.result c.in-Some.ensures.place c.at.ensures.value;
-  same = ap (λ x. record { inner = x }) (c.at.ensures.same ∙ c.in-Some.ensures.same);
-}
+pub returns-in-Some-clause-same : goal.returns-in-Some-clause-same
+returns-in-Some-clause-same g c = same_loose _ _ c.get.ensures.same
 
-pub returns-in-None : goal.returns-in-None
-returns-in-None g c = record {
-  value = λ fits. sym (none_is g.E.Key.KeyOrder.before g.E.Keyed.keyed (lawful g) c.args.self.now.inner c.place_of.new.pile c.in-None.ensures.same fits c.args.key c.in-None.ensures.place);
-  same = ap (λ x. record { inner = x }) c.in-None.ensures.same;
-}
+pub returns-in-None-clause-value : goal.returns-in-None-clause-value
+returns-in-None-clause-value g c =
+    sym (passed_lookup g.E.Key.KeyOrder.before g.E.Keyed.keyed (lawful g.met.E.Key.KeyOrder) _ c.args.key c.in-None.ensures)
+    ∙ ap (λ xs. lookup g.E.Key.KeyOrder.before g.E.Keyed.keyed xs c.args.key) c.held.ensures

@@ -1,43 +1,30 @@
-use Rattle.std.proofs.Common.{sym, ap, subst, arith}
-use Rattle.std.proofs.lemmas.Bool.{true≢false}
-use Rattle.ordered.specs.Tables.{room, Apart}
-use Rattle.ordered.proofs.Changes.{kept_since, all_kept}
-use Rattle.loose.proofs.Piles.{replaced, pushed, refused}
-use Rattle.maps.specs.Orders.{Lawful}
-use Rattle.loose.proofs.loose.Loose.put.Given as given
+use Rattle.std.proofs.Common.{length, subst, ap}
+use Rattle.maps.specs.Places.{Passed, Found}
+use Rattle.ordered.specs.Tables.{items}
+use Rattle.ordered.proofs.Laws.{lawful}
+use Rattle.loose.proofs.Piles.{put_found, found_apart, put_passed, passed_apart}
+use Rattle.loose.proofs.Whole.{same_loose}
 use Rattle.loose.proofs.loose.Loose.put.Goals as goal
 
-lawful : (g : given.Over) → Lawful g.E.Key.KeyOrder.before
-lawful g = record { irreflexive = g.met.E.Key.KeyOrder.irreflexive; transitive = g.met.E.Key.KeyOrder.transitive; total = g.met.E.Key.KeyOrder.total }
+pub invariant_of-self : goal.invariant_of-self
+invariant_of-self g c =
+    let found = subst (λ xs. Found g.E.Key.KeyOrder.before g.E.Keyed.keyed xs c.key.result c.in-Some.place) c.held.ensures c.in-Some.ensures in
+    record { distinct = found_apart g.E.Key.KeyOrder.before g.E.Keyed.keyed (lawful g.met.E.Key.KeyOrder) _ _ _ _ _ c.key.ensures found c.set.ensures.items c.args.self.now.distinct }
 
-pub returns-in-Some : goal.returns-in-Some
-returns-in-Some g c =
-    let done = λ (ok : Apart g.E.Key.KeyOrder.before g.E.Keyed.keyed c.args.self.now.inner). replaced g.E.Key.KeyOrder.before g.E.Keyed.keyed (lawful g) c.args.self.now.inner c.place_of.new.pile c.in-Some.ensures.same ok.0 c.args.entry c.key.result c.key.ensures c.replace.new.pile c.in-Some.place c.in-Some.ensures.place c.replace.ensures.items ok.1 in
-    let p = ap (λ t. t.len) c.in-Some.ensures.same in
-    let q = ap room c.in-Some.ensures.same in
-    let z = c.replace.ensures.rest.slots in
-    record {
-      put = λ ok. (done ok).0;
-      kept = λ ok. (omega arith, (done ok).1);
-      unchanged = λ h. absurd (true≢false h);
-      rest = kept_since _ _ _ c.in-Some.ensures.same c.replace.ensures.rest;
-    }
+pub invariant_of-self-in-None : goal.invariant_of-self-in-None
+invariant_of-self-in-None g c =
+    let passed = subst (λ xs. Passed g.E.Key.KeyOrder.before g.E.Keyed.keyed xs c.key.result (length xs)) c.held.ensures c.in-None.ensures in
+    record { distinct = passed_apart g.E.Key.KeyOrder.before g.E.Keyed.keyed (lawful g.met.E.Key.KeyOrder) _ _ _ _ _ c.args.self.now.distinct c.key.ensures passed c.push.ensures.items (λ h. ap items (c.push.ensures.unchanged h)) }
 
-pub returns-then-self-2 : goal.returns-then-self-2
-returns-then-self-2 g c =
-    let done = λ (ok : Apart g.E.Key.KeyOrder.before g.E.Keyed.keyed c.args.self.now.inner). pushed g.E.Key.KeyOrder.before g.E.Keyed.keyed (lawful g) c.args.self.now.inner c.place_of.new.pile c.in-None.ensures.same ok.0 c.args.entry c.key.result c.key.ensures c.push.new.pile c.in-None.ensures.place c.if-self-2.true c.push.ensures.items ok.1 in
-    let z = c.push.ensures.rest.slots in
-    record {
-      put = λ ok. (done ok).0;
-      kept = λ ok. (omega arith, (done ok).1);
-      unchanged = λ h. absurd (true≢false h);
-      rest = kept_since _ _ _ c.in-None.ensures.same c.push.ensures.rest;
-    }
+pub returns-in-Some-clause-put : goal.returns-in-Some-clause-put
+returns-in-Some-clause-put g c =
+    let found = subst (λ xs. Found g.E.Key.KeyOrder.before g.E.Keyed.keyed xs c.key.result c.in-Some.place) c.held.ensures c.in-Some.ensures in
+    put_found g.E.Key.KeyOrder.before g.E.Keyed.keyed (lawful g.met.E.Key.KeyOrder) _ _ _ _ _ _ c.key.ensures found c.set.ensures.items
 
-pub returns-else-self-2 : goal.returns-else-self-2
-returns-else-self-2 g c = record {
-  put = λ ok. refused g.E.Key.KeyOrder.before g.E.Keyed.keyed (lawful g) c.args.self.now.inner c.place_of.new.pile c.in-None.ensures.same ok.0 c.args.entry c.key.result c.key.ensures c.in-None.ensures.place c.if-self-2.false ok.1;
-  kept = λ ok. subst (Apart g.E.Key.KeyOrder.before g.E.Keyed.keyed) (sym c.in-None.ensures.same) ok;
-  unchanged = λ _. ap (λ x. record { inner = x }) c.in-None.ensures.same;
-  rest = all_kept _ _ c.in-None.ensures.same;
-}
+pub returns-in-None-clause-put : goal.returns-in-None-clause-put
+returns-in-None-clause-put g c =
+    let passed = subst (λ xs. Passed g.E.Key.KeyOrder.before g.E.Keyed.keyed xs c.key.result (length xs)) c.held.ensures c.in-None.ensures in
+    put_passed g.E.Key.KeyOrder.before g.E.Keyed.keyed (lawful g.met.E.Key.KeyOrder) _ _ _ _ _ _ c.args.self.now.distinct c.key.ensures passed c.push.ensures.done c.push.ensures.items (λ h. ap items (c.push.ensures.unchanged h))
+
+pub returns-in-None-clause-unchanged : goal.returns-in-None-clause-unchanged
+returns-in-None-clause-unchanged g c = λ h. same_loose _ _ (c.push.ensures.unchanged h)

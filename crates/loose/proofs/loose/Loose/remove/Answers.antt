@@ -1,32 +1,20 @@
-use Rattle.std.proofs.Common.{sym, ap, subst, arith}
-use Rattle.std.proofs.lemmas.Bool.{true≢false}
-use Rattle.ordered.specs.Tables.{room, Apart}
-use Rattle.ordered.proofs.Changes.{kept_since, all_kept}
-use Rattle.loose.proofs.Piles.{taken_out, not_there}
-use Rattle.maps.specs.Orders.{Lawful}
-use Rattle.loose.proofs.loose.Loose.remove.Given as given
+use Rattle.std.proofs.Common.{length, refl, subst}
+use Rattle.maps.specs.Places.{Passed, Found}
+use Rattle.ordered.proofs.Laws.{lawful}
+use Rattle.loose.proofs.Piles.{removed_found, removed_passed, swap_apart}
 use Rattle.loose.proofs.loose.Loose.remove.Goals as goal
 
-lawful : (g : given.Over) → Lawful g.E.Key.KeyOrder.before
-lawful g = record { irreflexive = g.met.E.Key.KeyOrder.irreflexive; transitive = g.met.E.Key.KeyOrder.transitive; total = g.met.E.Key.KeyOrder.total }
+pub invariant_of-self : goal.invariant_of-self
+invariant_of-self g c =
+    let found = subst (λ xs. Found g.E.Key.KeyOrder.before g.E.Keyed.keyed xs c.args.key c.in-Some.place) c.held.ensures c.in-Some.ensures in
+    record { distinct = swap_apart g.E.Key.KeyOrder.before g.E.Keyed.keyed (lawful g.met.E.Key.KeyOrder) _ _ _ _ found c.take_out.ensures.items c.args.self.now.distinct }
 
-pub returns-in-Some : goal.returns-in-Some
-returns-in-Some g c =
-    let done = λ (ok : Apart g.E.Key.KeyOrder.before g.E.Keyed.keyed c.args.self.now.inner). taken_out g.E.Key.KeyOrder.before g.E.Keyed.keyed (lawful g) c.args.self.now.inner c.place_of.new.pile c.in-Some.ensures.same ok.0 c.take_out.new.pile c.args.key c.in-Some.place c.in-Some.ensures.place c.take_out.ensures.items ok.1 in
-    let p = ap (λ t. t.len) c.in-Some.ensures.same in
-    let q = ap room c.in-Some.ensures.same in
-    let z = c.take_out.ensures.rest.slots in
-    record {
-      removed = λ ok. (done ok).0;
-      kept = λ ok. (omega arith, (done ok).1);
-      unchanged = λ h. absurd (true≢false h);
-      rest = kept_since _ _ _ c.in-Some.ensures.same c.take_out.ensures.rest;
-    }
+pub returns-in-Some-clause-removed : goal.returns-in-Some-clause-removed
+returns-in-Some-clause-removed g c =
+    let found = subst (λ xs. Found g.E.Key.KeyOrder.before g.E.Keyed.keyed xs c.args.key c.in-Some.place) c.held.ensures c.in-Some.ensures in
+    removed_found g.E.Key.KeyOrder.before g.E.Keyed.keyed (lawful g.met.E.Key.KeyOrder) _ _ _ _ found c.take_out.ensures.items c.args.self.now.distinct
 
-pub returns-in-None : goal.returns-in-None
-returns-in-None g c = record {
-  removed = λ ok. not_there g.E.Key.KeyOrder.before g.E.Keyed.keyed (lawful g) c.args.self.now.inner c.place_of.new.pile c.in-None.ensures.same ok.0 c.args.key c.in-None.ensures.place;
-  kept = λ ok. subst (Apart g.E.Key.KeyOrder.before g.E.Keyed.keyed) (sym c.in-None.ensures.same) ok;
-  unchanged = λ _. ap (λ x. record { inner = x }) c.in-None.ensures.same;
-  rest = all_kept _ _ c.in-None.ensures.same;
-}
+pub returns-in-None-clause-removed : goal.returns-in-None-clause-removed
+returns-in-None-clause-removed g c =
+    removed_passed g.E.Key.KeyOrder.before g.E.Keyed.keyed (lawful g.met.E.Key.KeyOrder) _ _ c.args.key
+    (subst (λ xs. Passed g.E.Key.KeyOrder.before g.E.Keyed.keyed xs c.args.key (length xs)) c.held.ensures c.in-None.ensures) refl

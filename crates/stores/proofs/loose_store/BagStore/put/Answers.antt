@@ -7,23 +7,19 @@ use Rattle.stores.proofs.loose_store.BagStore.put.Goals as goal
 
 pub invariant_of-self : goal.invariant_of-self
 invariant_of-self c =
-    let kept = c.put.ensures.kept (c.args.self.now.fits, c.args.self.now.apart) in
     let same_slots = c.put.ensures.rest.slots in
     let small = c.args.self.now.small in
     record {
-      fits = kept.0;
       small = omega arith;
-      apart = kept.1;
-      valid = puts_valid (map_of (in_any_order c.args.self.now.rows)) (map_of (in_any_order c.put.new.self)) _ _ _ (puts_equal (map_of (in_any_order c.args.self.now.rows)) (map_of (in_any_order c.put.new.self)) _ _ _ _ c.to_record.ensures (c.put.ensures.put (c.args.self.now.fits, c.args.self.now.apart))) c.args.self.now.valid c.args.schedule.valid;
+      valid = puts_valid (map_of (in_any_order c.args.self.now.rows)) (map_of (in_any_order c.put.new.self)) _ _ _ (puts_equal (map_of (in_any_order c.args.self.now.rows)) (map_of (in_any_order c.put.new.self)) _ _ _ _ c.to_record.ensures c.put.ensures.put) c.args.self.now.valid c.args.schedule.valid;
     }
 
 pub returns : goal.returns
 returns c =
-    let kept = c.put.ensures.kept (c.args.self.now.fits, c.args.self.now.apart) in
     record {
-      puts = puts_equal (map_of (in_any_order c.args.self.now.rows)) (map_of (in_any_order c.put.new.self)) _ _ _ _ c.to_record.ensures (c.put.ensures.put (c.args.self.now.fits, c.args.self.now.apart));
+      puts = puts_equal (map_of (in_any_order c.args.self.now.rows)) (map_of (in_any_order c.put.new.self)) _ _ _ _ c.to_record.ensures c.put.ensures.put;
       unchanged = λ h. same_bag _ _ (c.put.ensures.unchanged h);
       capacity = c.put.ensures.rest.slots;
-      fits = (let f = kept.0 in let q = map_length c.put.new.self.inner kept.0 kept.1 in omega arith);
+      fits = (let f = c.put.new.self.inner.fits in let q = map_length c.put.new.self.inner c.put.new.self.distinct in omega arith);
       rest = c.put.ensures.rest;
     }

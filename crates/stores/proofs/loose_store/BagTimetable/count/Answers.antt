@@ -7,10 +7,10 @@ use Rattle.stores.proofs.loose_store.BagTimetable.count.Goals as goal
 
 pub returns : goal.returns
 returns c =
-    let f = c.args.self.now.fits in
-    let long = map_length c.args.self.now.rows.inner c.args.self.now.fits c.args.self.now.apart in
+    let f = c.args.self.now.rows.inner.fits in
+    let long = map_length c.args.self.now.rows.inner c.args.self.now.rows.distinct in
     record {
-      value = c.len.ensures.value c.args.self.now.fits ∙ (length-take-le c.args.self.now.rows.inner.len c.args.self.now.rows.inner.slots.now f ∙ sym long);
+      value = c.len.ensures.value ∙ (length-take-le c.args.self.now.rows.inner.len c.args.self.now.rows.inner.slots.now f ∙ sym long);
       is_map = record { rising = map_rises (in_any_order c.args.self.now.rows); schedules = c.args.self.now.valid };
       fits = omega arith;
       same = same_bag _ _ c.len.ensures.same;

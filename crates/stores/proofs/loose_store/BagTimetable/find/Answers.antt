@@ -1,33 +1,31 @@
-use Rattle.std.proofs.Common.{is_some, unwrap_or, ap, ◌∙◌}
-use Rattle.std.proofs.lemmas.Bool.{true≢false, both_ways}
+use Rattle.std.proofs.Common.{◌≡◌, None, is_some, unwrap_or, sym, ap, ◌∙◌, rules}
+use Rattle.std.proofs.lemmas.Bool.{both_ways}
 use Rattle.schedule.specs.Records.{is_schedule}
 use Rattle.timetable.proofs.Valid.{found_valid}
 use Rattle.stores.specs.Tables.{in_any_order, map_of}
+use Rattle.stores.proofs.Absent.{not_there}
 use Rattle.stores.proofs.BagMaps.{map_finds}
 use Rattle.stores.proofs.BagWhole.{same_bag}
 use Rattle.stores.proofs.loose_store.BagTimetable.find.Goals as goal
 
-pub returns-in-Some-from_record : goal.returns-in-Some-from_record
-returns-in-Some-from_record c =
-    let there = c.in-Some.ensures.value c.args.self.now.fits ∙ map_finds (in_any_order c.args.self.now.rows) c.args.key in
-    record {
-      found = ap is_some there;
-      copied = c.in-Some-from_record.ensures.0 ∙ ap (λ o. unwrap_or o c.args.place.now.plain) there;
-      left = λ h. absurd (true≢false h);
-      same = same_bag _ _ c.in-Some.ensures.same;
-    }
+pub returns-in-Some-clause-found : goal.returns-in-Some-clause-found
+returns-in-Some-clause-found c = let there = c.find.ensures.value ∙ map_finds (in_any_order c.args.self.now.rows) c.args.key in search rules
 
-pub returns-in-None-from_record : goal.returns-in-None-from_record
-returns-in-None-from_record c =
-    let there = c.in-Some.ensures.value c.args.self.now.fits ∙ map_finds (in_any_order c.args.self.now.rows) c.args.key in
-    absurd (both_ways (is_schedule c.in-Some.plain) c.in-None-from_record.ensures (found_valid (map_of (in_any_order c.args.self.now.rows)) c.args.key c.in-Some.plain c.args.self.now.valid there))
+pub returns-in-Some-clause-copied : goal.returns-in-Some-clause-copied
+returns-in-Some-clause-copied c = let there = c.find.ensures.value ∙ map_finds (in_any_order c.args.self.now.rows) c.args.key in search rules
 
-pub returns-in-None : goal.returns-in-None
-returns-in-None c =
-    let absent = c.in-None.ensures.value c.args.self.now.fits ∙ map_finds (in_any_order c.args.self.now.rows) c.args.key in
-    record {
-      found = ap is_some absent;
-      copied = ap (λ o. unwrap_or o c.args.place.now.plain) absent;
-      left = λ _. mathlib.Core.Path.refl;
-      same = same_bag _ _ c.in-None.ensures.same;
-    }
+pub returns-in-Some-clause-same : goal.returns-in-Some-clause-same
+returns-in-Some-clause-same c = same_bag _ _ c.find.ensures.same
+
+absent : (c : goal.In_default) → None ≡ c.find.result
+absent c = sym (not_there c.find.result c.and_then.result c.and_then.ensures (λ x at p.
+    both_ways (is_schedule x) (search rules) (found_valid (map_of (in_any_order c.args.self.now.rows)) c.args.key x c.args.self.now.valid (sym at ∙ c.find.ensures.value ∙ map_finds (in_any_order c.args.self.now.rows) c.args.key))))
+
+pub returns-clause-found : goal.returns-clause-found
+returns-clause-found c = ap is_some (absent c ∙ c.find.ensures.value ∙ map_finds (in_any_order c.args.self.now.rows) c.args.key)
+
+pub returns-clause-copied : goal.returns-clause-copied
+returns-clause-copied c = ap (λ o. unwrap_or o c.args.place.now.plain) (absent c ∙ c.find.ensures.value ∙ map_finds (in_any_order c.args.self.now.rows) c.args.key)
+
+pub returns-clause-same : goal.returns-clause-same
+returns-clause-same c = same_bag _ _ c.find.ensures.same

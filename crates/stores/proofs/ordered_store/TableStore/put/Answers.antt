@@ -7,23 +7,19 @@ use Rattle.stores.proofs.ordered_store.TableStore.put.Goals as goal
 
 pub invariant_of-self : goal.invariant_of-self
 invariant_of-self c =
-    let kept = c.put.ensures.kept (c.args.self.now.fits, c.args.self.now.rising) in
     let same_slots = c.put.ensures.rest.slots in
     let small = c.args.self.now.small in
     record {
-      fits = kept.0;
       small = omega arith;
-      rising = kept.1;
-      valid = puts_valid (in_order c.args.self.now.rows) (in_order c.put.new.self) _ _ _ (puts_equal (in_order c.args.self.now.rows) (in_order c.put.new.self) _ _ _ _ c.to_record.ensures (c.put.ensures.put (c.args.self.now.fits, c.args.self.now.rising))) c.args.self.now.valid c.args.schedule.valid;
+      valid = puts_valid (in_order c.args.self.now.rows) (in_order c.put.new.self) _ _ _ (puts_equal (in_order c.args.self.now.rows) (in_order c.put.new.self) _ _ _ _ c.to_record.ensures c.put.ensures.put) c.args.self.now.valid c.args.schedule.valid;
     }
 
 pub returns : goal.returns
 returns c =
-    let kept = c.put.ensures.kept (c.args.self.now.fits, c.args.self.now.rising) in
     record {
-      puts = puts_equal (in_order c.args.self.now.rows) (in_order c.put.new.self) _ _ _ _ c.to_record.ensures (c.put.ensures.put (c.args.self.now.fits, c.args.self.now.rising));
+      puts = puts_equal (in_order c.args.self.now.rows) (in_order c.put.new.self) _ _ _ _ c.to_record.ensures c.put.ensures.put;
       unchanged = λ h. same_table _ _ (c.put.ensures.unchanged h);
       capacity = c.put.ensures.rest.slots;
-      fits = (let f = kept.0 in let q = length-take-le c.put.new.self.inner.len c.put.new.self.inner.slots.now f in omega arith);
+      fits = (let f = c.put.new.self.inner.fits in let q = length-take-le c.put.new.self.inner.len c.put.new.self.inner.slots.now f in omega arith);
       rest = c.put.ensures.rest;
     }

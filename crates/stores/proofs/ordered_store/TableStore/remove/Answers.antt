@@ -7,23 +7,19 @@ use Rattle.stores.proofs.ordered_store.TableStore.remove.Goals as goal
 
 pub invariant_of-self : goal.invariant_of-self
 invariant_of-self c =
-    let kept = c.remove.ensures.kept (c.args.self.now.fits, c.args.self.now.rising) in
     let same_slots = c.remove.ensures.rest.slots in
     let small = c.args.self.now.small in
     record {
-      fits = kept.0;
       small = omega arith;
-      rising = kept.1;
-      valid = removes_valid (in_order c.args.self.now.rows) (in_order c.remove.new.self) _ _ (c.remove.ensures.removed (c.args.self.now.fits, c.args.self.now.rising)) c.args.self.now.valid;
+      valid = removes_valid (in_order c.args.self.now.rows) (in_order c.remove.new.self) _ _ c.remove.ensures.removed c.args.self.now.valid;
     }
 
 pub returns : goal.returns
 returns c =
-    let kept = c.remove.ensures.kept (c.args.self.now.fits, c.args.self.now.rising) in
     record {
-      removes = c.remove.ensures.removed (c.args.self.now.fits, c.args.self.now.rising);
+      removes = c.remove.ensures.removed;
       unchanged = λ h. same_table _ _ (c.remove.ensures.unchanged h);
       capacity = c.remove.ensures.rest.slots;
-      fits = (let f = kept.0 in let q = length-take-le c.remove.new.self.inner.len c.remove.new.self.inner.slots.now f in omega arith);
+      fits = (let f = c.remove.new.self.inner.fits in let q = length-take-le c.remove.new.self.inner.len c.remove.new.self.inner.slots.now f in omega arith);
       rest = c.remove.ensures.rest;
     }

@@ -7,8 +7,8 @@ pub returns : goal.returns
 returns c =
     let s = c.args.self.now in
     record {
-      value = c.len.ensures.value c.args.self.now.fits;
-      is_map = record { rising = c.args.self.now.rising; schedules = c.args.self.now.valid };
-      fits = (let f = c.args.self.now.fits in let q = length-take-le c.args.self.now.rows.inner.len c.args.self.now.rows.inner.slots.now f in omega arith);
+      value = c.len.ensures.value;
+      is_map = record { rising = c.args.self.now.rows.rising; schedules = c.args.self.now.valid };
+      fits = (let f = c.args.self.now.rows.inner.fits in let q = length-take-le c.args.self.now.rows.inner.len c.args.self.now.rows.inner.slots.now f in omega arith);
       same = same_table _ _ c.len.ensures.same;
     }

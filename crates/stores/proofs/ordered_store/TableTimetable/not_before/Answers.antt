@@ -3,7 +3,7 @@ use Rattle.stores.proofs.ordered_store.TableTimetable.not_before.Goals as goal
 
 pub returns : goal.returns
 returns c = record {
-  value = c.not_before.ensures.value (c.args.self.now.fits, c.args.self.now.rising);
-  is_map = record { rising = c.args.self.now.rising; schedules = c.args.self.now.valid };
+  value = c.not_before.ensures.value;
+  is_map = record { rising = c.args.self.now.rows.rising; schedules = c.args.self.now.valid };
   same = same_table _ _ c.not_before.ensures.same;
 }

@@ -1,9 +1,0 @@
-use Rattle.std.proofs.Common.{sym, ◌∙◌, arith, rules}
-use Rattle.std.proofs.lemmas.List.{get_or_default, get_or-take}
-use Rattle.loose.proofs.moves.at.Goals as goal
-
-pub returns : goal.returns
-returns g c = record {
-  same = search rules;
-  value = λ d. get_or_default c.args.pile.now.slots.now c.args.place c.index-pile-place.result d (omega arith) ∙ sym (get_or-take c.args.pile.now.len c.args.pile.now.slots.now c.args.place d c.requires.within);
-}
