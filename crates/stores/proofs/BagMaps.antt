@@ -14,9 +14,6 @@ use Rattle.timetable.specs.Timetables.{schedule_of}
 use Rattle.timetable.proofs.Valid.{key_lawful}
 use Rattle.stores.specs.Tables.{map_of}
 
-pub map_rises : (rs : List Record) → ascending key_before key_of (map_of rs) ≡ true
-map_rises rs = ascending_gathered key_before key_of key_lawful rs
-
 pub map_length : (s : Slots Record) → apart key_before key_of (items s) ≡ true → length (map_of (items s)) ≡ s.len
 map_length s a = length_gathered key_before key_of key_lawful (items s) a ∙ length-take-le s.len s.slots.now s.fits
 

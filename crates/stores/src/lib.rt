@@ -2,6 +2,7 @@
 #![tactic(auto)]
 
 pub mod bag;
+pub mod checked;
 pub mod loose_store;
 pub mod new;
 pub mod ordered_store;

@@ -3,8 +3,10 @@ ghost use Rattle.std.specs.Prelude.{◌≡◌, ℕ, ◌≤◌, Bool, true, false
 ghost use Rattle.ordered.specs.Tables.{room, RestKept};
 ghost use Rattle.timetable.specs.Timetables.{Puts, Removes};
 ghost use Rattle.stores.specs.Tables.{in_any_order, map_of};
+ghost use Rattle.stores.specs.Maps.{map_rises};
 
 use crate::bag::Bag;
+use crate::checked::checked;
 use ordered::table::Full;
 use schedule::key::Key;
 use schedule::schedule::Schedule;
@@ -15,12 +17,14 @@ impl Timetable for Bag<'_> {
 
     ghost capacity = { λ s. room s.rows.inner };
 
+    ghost is_map = { λ s. record { rising = map_rises (in_any_order s.rows); schedules = s.valid } };
+
     fn count(&mut self) -> usize {
         self.rows.len()
     }
 
     fn find(&mut self, key: Key, place: &mut Schedule) -> bool {
-        if let Some(schedule) = self.rows.find(key).and_then(Schedule::from_record) {
+        if let Some(schedule) = self.rows.find(key).and_then(checked) {
             *place = schedule;
             return true;
         }
@@ -45,7 +49,7 @@ impl Store for Bag<'_> {
         ensures fits { length (map_of (in_any_order self.new.rows)) ≤ room self.new.rows.inner }
         ensures rest { RestKept self.old.rows.inner self.new.rows.inner }
     {
-        self.rows.put(schedule.to_record())
+        self.rows.put(schedule.into())
     }
 
     fn remove(&mut self, key: Key) -> bool

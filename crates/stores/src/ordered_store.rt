@@ -4,6 +4,7 @@ ghost use Rattle.ordered.specs.Tables.{room, RestKept};
 ghost use Rattle.timetable.specs.Timetables.{Puts, Removes};
 ghost use Rattle.stores.specs.Tables.{in_order};
 
+use crate::checked::checked;
 use crate::table::Table;
 use ordered::table::Full;
 use schedule::key::Key;
@@ -15,12 +16,14 @@ impl Timetable for Table<'_> {
 
     ghost capacity = { λ s. room s.rows.inner };
 
+    ghost is_map = { λ s. record { rising = s.rows.rising; schedules = s.valid } };
+
     fn count(&mut self) -> usize {
         self.rows.len()
     }
 
     fn find(&mut self, key: Key, place: &mut Schedule) -> bool {
-        if let Some(schedule) = self.rows.find(key).and_then(Schedule::from_record) {
+        if let Some(schedule) = self.rows.find(key).and_then(checked) {
             *place = schedule;
             return true;
         }
@@ -45,7 +48,7 @@ impl Store for Table<'_> {
         ensures fits { length (in_order self.new.rows) ≤ room self.new.rows.inner }
         ensures rest { RestKept self.old.rows.inner self.new.rows.inner }
     {
-        self.rows.put(schedule.to_record())
+        self.rows.put(schedule.into())
     }
 
     fn remove(&mut self, key: Key) -> bool

@@ -1,7 +1,7 @@
 use Rattle.std.proofs.Common.{sym, ◌∙◌, arith}
 use Rattle.std.proofs.lemmas.List.{length-take-le}
 use Rattle.stores.specs.Tables.{in_any_order}
-use Rattle.stores.proofs.BagMaps.{map_rises, map_length}
+use Rattle.stores.proofs.BagMaps.{map_length}
 use Rattle.stores.proofs.BagWhole.{same_bag}
 use Rattle.stores.proofs.loose_store.BagTimetable.count.Goals as goal
 
@@ -11,7 +11,6 @@ returns c =
     let long = map_length c.args.self.now.rows.inner c.args.self.now.rows.distinct in
     record {
       value = c.len.ensures.value ∙ (length-take-le c.args.self.now.rows.inner.len c.args.self.now.rows.inner.slots.now f ∙ sym long);
-      is_map = record { rising = map_rises (in_any_order c.args.self.now.rows); schedules = c.args.self.now.valid };
       fits = omega arith;
       same = same_bag _ _ c.len.ensures.same;
     }

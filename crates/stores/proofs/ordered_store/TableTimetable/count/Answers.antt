@@ -8,7 +8,6 @@ returns c =
     let s = c.args.self.now in
     record {
       value = c.len.ensures.value;
-      is_map = record { rising = c.args.self.now.rows.rising; schedules = c.args.self.now.valid };
       fits = (let f = c.args.self.now.rows.inner.fits in let q = length-take-le c.args.self.now.rows.inner.len c.args.self.now.rows.inner.slots.now f in omega arith);
       same = same_table _ _ c.len.ensures.same;
     }

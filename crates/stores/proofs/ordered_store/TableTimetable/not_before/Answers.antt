@@ -4,6 +4,5 @@ use Rattle.stores.proofs.ordered_store.TableTimetable.not_before.Goals as goal
 pub returns : goal.returns
 returns c = record {
   value = c.not_before.ensures.value;
-  is_map = record { rising = c.args.self.now.rows.rising; schedules = c.args.self.now.valid };
   same = same_table _ _ c.not_before.ensures.same;
 }
