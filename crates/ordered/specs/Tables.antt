@@ -1,6 +1,6 @@
 -- What a table of keyed elements does, by the elements that it holds.
-use Rattle.std.specs.Prelude.{◌≡◌, ℕ, ◌≤◌, Bool, true, cond, ◌||◌, List, length, take, drop, is_some, nat_lt}
-use Rattle.maps.specs.Maps.{ascending, apart, lookup, including, excluding}
+use Rattle.std.specs.Prelude.{◌≡◌, ℕ, Bool, cond, ◌||◌, List, length, take, drop, is_some, nat_lt}
+use Rattle.maps.specs.Maps.{lookup, including, excluding}
 use Rattle.ordered.specs.declared.slots.Slots.{Slots}
 
 -- the elements that are held: those in the first slots
@@ -12,14 +12,6 @@ abbrev pub room : {E : Type 0} → Slots E → ℕ
 room s = length s.slots.now
 
 module _ {E K : Type 0} (before : K → K → Bool) (key : E → K) where
-  -- the elements fit the slots, and stand in the order of their keys
-  abbrev pub InOrder : Slots E → Type 0
-  InOrder s = (s.len ≤ room s) × (ascending before key (items s) ≡ true)
-
-  -- the elements fit the slots, and no two have one key
-  abbrev pub Apart : Slots E → Type 0
-  Apart s = (s.len ≤ room s) × (apart before key (items s) ≡ true)
-
   -- x is put in place of the element of its key, or added where there is room; r tells whether it was
   pub record Put (xs ys : List E) (n : ℕ) (x : E) (r : Bool) : Type 0 where
     pub done : r ≡ (is_some (lookup before key xs (key x)) || nat_lt (length xs) n)
