@@ -39,6 +39,14 @@ impl Board<'_> {
         Board { lines, shown: None }
     }
 
+    // How many lines it shows.
+    pub fn len(&mut self) -> usize
+        ensures value { result ≡ length (items self.old.lines.inner) }
+        ensures same { self.new ≡ self.old }
+    {
+        self.lines.len()
+    }
+
     // The line at a place counted from 0.
     pub fn tell(&mut self, place: usize) -> Option<Line>
         ensures line { MatchOption result (length (items self.old.lines.inner) ≤ place) (λ l. (place < length (items self.old.lines.inner)) × ((d : Line) → l ≡ slice_index_or (items self.old.lines.inner) place d)) }

@@ -106,12 +106,7 @@ pub fn shown_lines(shown: &mut Board, most: usize) -> u64
     ensures value { result ≡ min most (length (items shown.old.lines.inner)) }
     ensures same { shown.new ≡ shown.old }
 {
-    for place in 0..most {
-        if shown.tell(place).is_none() {
-            return place as u64;
-        }
-    }
-    most as u64
+    most.min(shown.len()) as u64
 }
 
 // Prints the lines of a board in order, and how many there are.
