@@ -99,7 +99,7 @@ fn run_extracts<S: Store + Drop>(
 }
 
 fn run_task(rt: &HostRuntime, words: &[String]) -> anyhow::Result<()> {
-    match Task::from_words(words)? {
+    match Task::try_from(words)? {
         Task::Rows(files) => run_rows(rt, files),
         Task::Stores(slots, files) => run_stores(rt, slots, files),
         Task::OverStore(wanted, work) => run_over_store(rt, wanted, work),

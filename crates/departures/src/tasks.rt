@@ -6,6 +6,7 @@ use anyhow::anyhow;
 use forms::numbers::date;
 use std::fmt;
 use std::fmt::{Display, Formatter};
+use std::str::FromStr;
 
 const USAGE: &str =
     "usage: departures rows FILE... | departures stores CAPACITY FILE... | departures board STORE CAPACITY STATION DATE FILE... | departures extract STORE CAPACITY STATION DATE BASE FILE...";
@@ -20,8 +21,10 @@ pub enum StoreKind {
     Bag,
 }
 
-impl StoreKind {
-    fn from_word(word: &str) -> anyhow::Result<StoreKind> {
+impl FromStr for StoreKind {
+    type Err = anyhow::Error;
+
+    fn from_str(word: &str) -> anyhow::Result<StoreKind> {
         match word {
             "table" => Ok(StoreKind::Table),
             "bag" => Ok(StoreKind::Bag),
@@ -62,7 +65,7 @@ impl<'a> Wanted<'a> {
             [store, capacity, station, date, rest @ ..] if !rest.is_empty() => {
                 let wanted = Wanted {
                     slots: slots_in(capacity.as_str())?,
-                    store: StoreKind::from_word(store.as_str())?,
+                    store: store.as_str().parse::<StoreKind>()?,
                     station: station.as_str(),
                     date: date.as_str(),
                 };
@@ -100,9 +103,11 @@ pub enum Task<'a> {
     OverStore(Wanted<'a>, Work<'a>),
 }
 
-impl<'a> Task<'a> {
-    // The task that words ask for.
-    pub fn from_words(words: &'a [String]) -> anyhow::Result<Task<'a>> {
+// The task that words ask for.
+impl<'a> TryFrom<&'a [String]> for Task<'a> {
+    type Error = anyhow::Error;
+
+    fn try_from(words: &'a [String]) -> anyhow::Result<Task<'a>> {
         let [command, rest @ ..] = words else {
             return Err(anyhow!(USAGE));
         };
