@@ -1,5 +1,5 @@
 -- What a call tells and leaves, from what was heard.
-use Rattle.std.proofs.Common.{◌≡◌, ℕ, ◌+◌, ◌≤◌, true, false, List, [], length, is_ok, Some, None, Ok, Err, Option, Result, sym, refl, ap, ◌∙◌, subst, arith}
+use Rattle.std.proofs.Common.{◌≡◌, ℕ, ◌+◌, ◌≤◌, true, List, [], length, is_ok, Some, None, Ok, Err, Option, Result, sym, refl, ap, ◌∙◌, subst, arith}
 use Rattle.std.specs.Option.{option_map}
 use Rattle.std.proofs.lemmas.List.{take_all}
 use Rattle.std.proofs.lemmas.Bool.{true≢false}
@@ -50,9 +50,6 @@ module _ (s : Standing) (row : List ℕ) (p : Progress) (r : Result (Unit {0}) R
   pub was_ok : is_ok out ≡ true → is_ok r ≡ true
   was_ok h = sym (ap is_ok e ∙ ok_raised (in_extract (s.extract.taken + 1)) r) ∙ h
 
-  pub was_refused : is_ok out ≡ false → is_ok r ≡ false
-  was_refused h = sym (ap is_ok e ∙ ok_raised (in_extract (s.extract.taken + 1)) r) ∙ h
-
 -- nothing is pending when idle, so it fits
 pub idle_agrees : (m : List Record) (capacity : ℕ) (p : Progress) → p ≡ idle → IsMap m → length m ≤ capacity → Agrees m capacity [] p
 idle_agrees m capacity p e is l = record {
@@ -66,8 +63,5 @@ idle_agrees m capacity p e is l = record {
 
 -- a fault of a call that has no row
 module _ {X : Type 0} (r : Result X ColumnFault) (out : Result X ExtractFault) (e : out ≡ raised (in_extract 0) (raised (in_row blanks) r)) where
-  pub no_row_told : (o : Option ColumnFault) → fault_of r ≡ o → fault_of out ≡ option_map (λ f. in_extract 0 (in_row blanks f)) o
-  no_row_told o h = ap fault_of e ∙ (raised_told (in_extract 0) (raised (in_row blanks) r) ∙ (ap (option_map (in_extract 0)) (raised_told (in_row blanks) r ∙ ap (option_map (in_row blanks)) h) ∙ mapped_both (in_extract 0) (in_row blanks) o))
-
   pub no_row_ok : is_ok out ≡ is_ok r
   no_row_ok = ap is_ok e ∙ (ok_raised (in_extract 0) (raised (in_row blanks) r) ∙ ok_raised (in_row blanks) r)

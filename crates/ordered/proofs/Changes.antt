@@ -1,5 +1,5 @@
 -- What became of the elements after a search and a change at the place that it found.
-use Rattle.std.proofs.Common.{◌≡◌, ℕ, ◌≤◌, Bool, true, false, cond, ◌||◌, nat_lt, List, [], ◌∷◌, length, drop, set, slice_get, is_some, Some, Option, inl, inr, sym, ap, ◌∙◌, refl, subst, arith}
+use Rattle.std.proofs.Common.{◌≡◌, ℕ, ◌≤◌, Bool, true, false, cond, ◌||◌, nat_lt, List, [], ◌∷◌, length, set, slice_get, is_some, Some, Option, inl, inr, sym, ap, ◌∙◌, refl, subst, arith}
 use Rattle.std.specs.List.{insert, remove}
 use Rattle.std.specs.Option.{option_map}
 use Rattle.std.proofs.lemmas.Option.{slice_get-get_or, slice_get_cases}
@@ -8,15 +8,7 @@ use Rattle.maps.specs.Maps.{ascending, lookup, ceiling, including}
 use Rattle.maps.specs.Places.{Under, Over, Hit, Miss}
 use Rattle.maps.proofs.Maps.{ascending_including, ascending_excluding}
 use Rattle.maps.proofs.Sorted.{hit_lookup, miss_lookup, hit_including, miss_including, hit_excluding, miss_excluding, ceiling_here, ceiling_none}
-use Rattle.ordered.specs.declared.slots.Slots.{Slots}
-use Rattle.ordered.specs.Tables.{room, Put, Removed, RestKept}
-
--- what was kept since the search was kept since before it
-pub kept_since : {E : Type 0} {s m u : Slots E} → m ≡ s → RestKept m u → RestKept s u
-kept_since {E} {u = u} e r = subst (λ (a : Slots E). RestKept a u) e r
-
-pub all_kept : {E : Type 0} {s m : Slots E} → m ≡ s → RestKept s m
-all_kept {E} {m = m} e = record { rest = ap (λ (x : Slots E). drop m.len x.slots.now) e; slots = ap room e }
+use Rattle.ordered.specs.Tables.{Put, Removed}
 
 -- the key at the place that a search found
 pub key_there : {E K : Type 0} (before : K → K → Bool) (key : E → K) → Lawful before → (xs : List E) (n i : ℕ) (k : K) (o : Option E) → length xs ≡ n → i ≤ n → Under before key xs k i → Over before key xs k i n → o ≡ slice_get xs i → option_map key o ≡ ceiling before key xs k

@@ -1,8 +1,8 @@
 -- The map of a bag: in order, as long as the bag has schedules, and with the bag's look-ups.
 use Rattle.std.proofs.Common.{◌≡◌, true, List, length, sym, ◌∙◌}
 use Rattle.std.proofs.lemmas.List.{length-take-le}
-use Rattle.maps.specs.Maps.{ascending, apart}
-use Rattle.maps.proofs.Maps.{ascending_gathered, lookup_gathered}
+use Rattle.maps.specs.Maps.{apart}
+use Rattle.maps.proofs.Maps.{lookup_gathered}
 use Rattle.maps.proofs.Heaped.{length_gathered}
 use Rattle.ordered.specs.Tables.{items}
 use Rattle.ordered.specs.declared.slots.Slots.{Slots}

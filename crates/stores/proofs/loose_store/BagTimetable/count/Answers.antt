@@ -1,6 +1,5 @@
 use Rattle.std.proofs.Common.{sym, ◌∙◌, arith}
 use Rattle.std.proofs.lemmas.List.{length-take-le}
-use Rattle.stores.specs.Tables.{in_any_order}
 use Rattle.stores.proofs.BagMaps.{map_length}
 use Rattle.stores.proofs.BagWhole.{same_bag}
 use Rattle.stores.proofs.loose_store.BagTimetable.count.Goals as goal

@@ -1,4 +1,3 @@
-use Rattle.stores.specs.Tables.{in_any_order}
 use Rattle.stores.proofs.BagWhole.{same_bag}
 use Rattle.stores.proofs.loose_store.BagTimetable.not_before.Goals as goal
 
