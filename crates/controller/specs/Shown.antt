@@ -13,4 +13,4 @@ progress_in c = seen c.extract (pending_in c.overlay.pending)
 
 -- what a call is judged by
 abbrev pub standing_in : {S : Type 0} → (S → List Record) → (S → ℕ) → Controller S → Standing
-standing_in map capacity c = standing map capacity c.extract c.overlay
+standing_in map capacity c = standing map capacity c.extract c.overlay c.reference

@@ -20,12 +20,13 @@ impl<S: Store> Controller<S> {
     pub fn new(store: S) -> Controller<S>
         ensures idle { progress_in result ≡ idle }
         ensures store { result.overlay.store ≡ store }
-        ensures reference { result.extract.reference ≡ seven_blanks }
+        ensures reference { result.reference ≡ seven_blanks }
         ensures agrees { IsMap (S.Timetable.map store) → length (S.Timetable.map store) ≤ S.Timetable.capacity store → Agrees (S.Timetable.map store) (S.Timetable.capacity store) [] (progress_in result) }
     {
         Controller {
             overlay: Overlay::new(store),
             extract: Extract::new(),
+            reference: *b"       ",
         }
     }
 
@@ -35,7 +36,7 @@ impl<S: Store> Controller<S> {
         ensures taken { is_ok result ≡ true → progress_in self.new ≡ after_row (progress_in self.old) row.now }
         ensures unchanged { is_ok result ≡ false → self.new ≡ self.old }
         ensures store { self.new.overlay.store ≡ self.old.overlay.store }
-        ensures reference { self.new.extract.reference ≡ self.old.extract.reference }
+        ensures reference { self.new.reference ≡ self.old.reference }
         ensures agrees { (rows : List (List ℕ)) → Agrees (S.Timetable.map self.old.overlay.store) (S.Timetable.capacity self.old.overlay.store) rows (progress_in self.old) → is_ok result ≡ true
             → Agrees (S.Timetable.map self.new.overlay.store) (S.Timetable.capacity self.new.overlay.store) (rows ++ row.now ∷ []) (progress_in self.new) }
     {
@@ -49,7 +50,7 @@ impl<S: Store> Controller<S> {
         ensures taken { is_ok result ≡ true → progress_in self.new ≡ after_row (progress_in self.old) row.now }
         ensures unchanged { is_ok result ≡ false → self.new ≡ self.old }
         ensures store { self.new.overlay.store ≡ self.old.overlay.store }
-        ensures reference { self.new.extract.reference ≡ self.old.extract.reference }
+        ensures reference { self.new.reference ≡ self.old.reference }
         ensures agrees { (rows : List (List ℕ)) → Agrees (S.Timetable.map self.old.overlay.store) (S.Timetable.capacity self.old.overlay.store) rows (progress_in self.old) → is_ok result ≡ true
             → Agrees (S.Timetable.map self.new.overlay.store) (S.Timetable.capacity self.new.overlay.store) (rows ++ row.now ∷ []) (progress_in self.new) }
     {
@@ -63,7 +64,7 @@ impl<S: Store> Controller<S> {
         ensures dropped { is_ok result ≡ true → progress_in self.new ≡ idle }
         ensures unchanged { is_ok result ≡ false → self.new ≡ self.old }
         ensures store { self.new.overlay.store ≡ self.old.overlay.store }
-        ensures reference { self.new.extract.reference ≡ self.old.extract.reference }
+        ensures reference { self.new.reference ≡ self.old.reference }
         ensures agrees { (rows : List (List ℕ)) → Agrees (S.Timetable.map self.old.overlay.store) (S.Timetable.capacity self.old.overlay.store) rows (progress_in self.old) → is_ok result ≡ true
             → Agrees (S.Timetable.map self.new.overlay.store) (S.Timetable.capacity self.new.overlay.store) [] (progress_in self.new) }
     {

@@ -6,10 +6,11 @@ ghost use Rattle.extract.specs.Stages.{has_room};
 use extract::extract::Extract;
 use overlay::overlay::Overlay;
 
-// The store with what is pending over it, and the extract that is open.
+// The store with what is pending over it, the extract that is open, and the reference in force, which the next extract has to follow.
 #[derive(Drop)]
 pub struct Controller<S> {
     pub(crate) overlay: Overlay<S>,
     pub(crate) extract: Extract,
+    pub(crate) reference: [u8; 7],
     ghost room: { has_room extract.stage (length (pending_in overlay.pending)) ≡ true },
 }

@@ -15,7 +15,7 @@ impl<S: Store> Controller<S> {
         ensures told { Told (progress_in self.new) (heard_by is_misplaced (standing_in S.Timetable.map S.Timetable.capacity self.old) bytes.now) result }
         ensures unchanged { is_ok result ≡ false → self.new ≡ self.old }
         ensures store { self.new.overlay.store ≡ self.old.overlay.store }
-        ensures reference { self.new.extract.reference ≡ self.old.extract.reference }
+        ensures reference { self.new.reference ≡ self.old.reference }
     {
         let row = beside(Row::check(bytes), *b"  ")?;
         let letters = row.letters();
@@ -28,11 +28,11 @@ impl<S: Store> Controller<S> {
         ensures told { Told (progress_in self.new) (heard_by is_no_opening (standing_in S.Timetable.map S.Timetable.capacity self.old) bytes.now) result }
         ensures unchanged { is_ok result ≡ false → self.new ≡ self.old }
         ensures store { self.new.overlay ≡ self.old.overlay }
-        ensures reference { self.new.extract.reference ≡ self.old.extract.reference }
+        ensures reference { self.new.reference ≡ self.old.reference }
     {
         let row = beside(Row::check(bytes), *b"  ")?;
         let letters = row.letters();
-        beside(self.extract.open(&row), letters)?;
+        beside(self.extract.open(&row, &self.reference), letters)?;
         Ok(())
     }
 }

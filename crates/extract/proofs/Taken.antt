@@ -1,5 +1,5 @@
 -- What each kind of row comes to, once it is read.
-use Rattle.std.proofs.Common.{◌≡◌, ℕ, Bool, true, false, cond, ◌&&◌, ◌||◌, ltb, leb, List, [], ◌∷◌, ◌++◌, Some, None, Ok, Err, Result, sym, refl, ap, ◌∙◌, subst}
+use Rattle.std.proofs.Common.{◌≡◌, ℕ, Bool, true, false, ◌&&◌, ◌||◌, leb, List, [], ◌∷◌, ◌++◌, Some, None, Ok, Err, Result, sym, refl, ap, ◌∙◌, subst}
 use Rattle.std.proofs.lemmas.Bool.{cond-false}
 use Rattle.cif.specs.declared.content.Location.{Location}
 use Rattle.cif.specs.declared.content.Content.{Content}
@@ -13,7 +13,7 @@ use Rattle.cif.specs.Reading.{content_in}
 use Rattle.schedule.specs.Building.{with_operator, with_call, with_destination, bringing, bringing_lines}
 use Rattle.extract.specs.declared.stage.Stage.{Stage}
 use Rattle.extract.specs.declared.stage.Stage.TheVariants.{Between, Begun, Extra, Running}
-use Rattle.extract.specs.Stages.{next_stage, is_identity, is_reading, has_room}
+use Rattle.extract.specs.Stages.{next_stage, is_identity}
 use Rattle.extract.specs.Progress.{after}
 use Rattle.extract.specs.Judging.{Standing, is_misplaced, taken_by, admitted, judged, room_lines, content_lines, Told}
 use Rattle.extract.specs.Seen.{moved}

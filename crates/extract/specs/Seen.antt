@@ -24,11 +24,11 @@ moved p stage draft joining =
     record { stage = stage; taken = p.taken + 1; current = p.current; draft = draft; changes = p.changes ++ joining }
 
 -- what a row is judged by
-abbrev pub judged_at : List Record → ℕ → Extract → List Change → Standing
-judged_at map capacity e changes = record { extract = seen e changes; map = map; capacity = capacity; reference = e.reference }
+abbrev pub judged_at : List Record → ℕ → Extract → List Change → List ℕ → Standing
+judged_at map capacity e changes reference = record { extract = seen e changes; map = map; capacity = capacity; reference = reference }
 
-abbrev pub standing : {S : Type 0} → (S → List Record) → (S → ℕ) → Extract → Overlay S → Standing
-standing map capacity e o = judged_at (map o.store) (capacity o.store) e (pending_in o.pending)
+abbrev pub standing : {S : Type 0} → (S → List Record) → (S → ℕ) → Extract → Overlay S → List ℕ → Standing
+standing map capacity e o reference = judged_at (map o.store) (capacity o.store) e (pending_in o.pending) reference
 
 -- a BS that was read is in range
 abbrev pub range_in : BasicSchedule → Asked → Bool

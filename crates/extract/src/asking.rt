@@ -121,9 +121,9 @@ impl Extract {
         b: &BasicSchedule,
     ) -> Result<Transaction, ColumnFault>
         requires range { range_in b.now b.now.change ≡ true }
-        ensures told { MatchResult result
-            (λ t. (plain_of t ≡ asked_by b.now b.now.change) × (uppermost (content_lines (standing S.Timetable.map S.Timetable.capacity self.now overlay.old) (OfSchedule b.now)) ≡ None))
-            (λ e. uppermost (content_lines (standing S.Timetable.map S.Timetable.capacity self.now overlay.old) (OfSchedule b.now)) ≡ Some e) }
+        ensures told { (reference : List ℕ) → MatchResult result
+            (λ t. (plain_of t ≡ asked_by b.now b.now.change) × (uppermost (content_lines (standing S.Timetable.map S.Timetable.capacity self.now overlay.old reference) (OfSchedule b.now)) ≡ None))
+            (λ e. uppermost (content_lines (standing S.Timetable.map S.Timetable.capacity self.now overlay.old reference) (OfSchedule b.now)) ≡ Some e) }
         ensures room { is_ok result ≡ true → (self.now.taken < 9999) × (length (pending_in overlay.old.pending) < 32) }
         ensures same { overlay.new ≡ overlay.old }
     {

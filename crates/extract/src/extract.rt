@@ -5,14 +5,12 @@ ghost use Rattle.extract.specs.Stages.{most_rows};
 use crate::stage::Stage;
 use schedule::transaction::Transaction;
 
-// Its stage, the number of rows taken, the current file reference of its header, the transaction that is being read, and the
-// reference in force, which the next extract has to follow.
+// Its stage, the number of rows taken, the current file reference of its header, and the transaction that is being read.
 #[derive(Clone, Copy)]
 pub struct Extract {
     pub(crate) stage: Stage,
     pub(crate) taken: u16,
     pub(crate) current: [u8; 7],
     pub(crate) draft: Transaction,
-    pub(crate) reference: [u8; 7],
     ghost few: { taken ≤ most_rows stage },
 }

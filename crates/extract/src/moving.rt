@@ -1,5 +1,5 @@
 // How the open extract moves on with each kind of row.
-ghost use Rattle.std.specs.Prelude.{◌≡◌, Bool, true, false, List, [], ◌∷◌, ◌++◌, length, is_ok, if◌then◌else◌, nat_lt};
+ghost use Rattle.std.specs.Prelude.{◌≡◌, ℕ, Bool, true, false, List, [], ◌∷◌, ◌++◌, length, is_ok, if◌then◌else◌, nat_lt};
 ghost use Rattle.cif.specs.declared.content.Content.TheVariants.{Schedule as OfSchedule};
 ghost use Rattle.schedule.specs.declared.transaction.Change.{Change};
 ghost use Rattle.schedule.specs.Building.{with_operator, with_call, with_destination, bringing, bringing_lines};
@@ -26,7 +26,6 @@ impl Extract {
         ensures told { (cs : List Change) → Told (seen self.new cs) (judged (room_lines self.old.taken) (moved (seen self.old cs) next (plain_of self.old.draft) [])) result }
         ensures stage { self.new.stage ≡ (if is_ok result then next else self.old.stage) }
         ensures unchanged { is_ok result ≡ false → self.new ≡ self.old }
-        ensures reference { self.new.reference ≡ self.old.reference }
     {
         self.has_room()?;
         self.stage = next;
@@ -39,7 +38,6 @@ impl Extract {
         ensures told { (cs : List Change) → Told (seen self.new cs) (judged (room_lines self.old.taken) (moved (seen self.old cs) IsExtra (bringing (λ s. with_operator s operator) (plain_of self.old.draft)) [])) result }
         ensures stage { self.new.stage ≡ (if is_ok result then IsExtra else self.old.stage) }
         ensures unchanged { is_ok result ≡ false → self.new ≡ self.old }
-        ensures reference { self.new.reference ≡ self.old.reference }
     {
         self.has_room()?;
         self.draft = self.draft.with_operator(operator);
@@ -53,7 +51,6 @@ impl Extract {
         ensures told { (cs : List Change) → Told (seen self.new cs) (judged (bringing_lines (plain_of self.old.draft) location ++ room_lines self.old.taken) (moved (seen self.old cs) IsRunning (bringing (λ s. with_call s location) (plain_of self.old.draft)) [])) result }
         ensures stage { self.new.stage ≡ (if is_ok result then IsRunning else self.old.stage) }
         ensures unchanged { is_ok result ≡ false → self.new ≡ self.old }
-        ensures reference { self.new.reference ≡ self.old.reference }
     {
         self.draft = self.called(location)?;
         self.stage = Stage::Running;
@@ -70,7 +67,6 @@ impl Extract {
         ensures told { nat_lt (length (pending_in pending.old)) 32 ≡ true → Told (seen self.new (pending_in pending.new)) (judged (bringing_lines (plain_of self.old.draft) location ++ room_lines self.old.taken) (moved (seen self.old (pending_in pending.old)) IsBetween (plain_of self.old.draft) (bringing (λ s. with_destination s location.tiploc) (bringing (λ s. with_call s location) (plain_of self.old.draft)) ∷ []))) result }
         ensures unchanged { is_ok result ≡ false → (self.new ≡ self.old) × (pending.new ≡ pending.old) }
         ensures room { is_ok result ≡ true → has_room self.new.stage (length (pending_in pending.new)) ≡ true }
-        ensures reference { self.new.reference ≡ self.old.reference }
     {
         let ended = self.called(location)?.with_destination(location.tiploc);
         let _ = pending.join(ended);
@@ -86,11 +82,10 @@ impl Extract {
         b: &BasicSchedule,
     ) -> Result<(), ColumnFault>
         requires range { range_in b.now b.now.change ≡ true }
-        ensures told { self.old.stage ≡ IsBetween → Told (seen self.new (pending_in overlay.new.pending)) (admitted (standing S.Timetable.map S.Timetable.capacity self.old overlay.old) (OfSchedule b.now)) result }
+        ensures told { (reference : List ℕ) → self.old.stage ≡ IsBetween → Told (seen self.new (pending_in overlay.new.pending)) (admitted (standing S.Timetable.map S.Timetable.capacity self.old overlay.old reference) (OfSchedule b.now)) result }
         ensures unchanged { is_ok result ≡ false → (self.new ≡ self.old) × (overlay.new ≡ overlay.old) }
         ensures room { self.old.stage ≡ IsBetween → is_ok result ≡ true → has_room self.new.stage (length (pending_in overlay.new.pending)) ≡ true }
         ensures store { overlay.new.store ≡ overlay.old.store }
-        ensures reference { self.new.reference ≡ self.old.reference }
     {
         let asked = self.asked(overlay, b)?;
         if is_brief(b) {

@@ -3,7 +3,6 @@ ghost use Rattle.std.specs.Prelude.{◌≡◌, ℕ, Bool, true, false, List, [],
 ghost use Rattle.cif.specs.Refusals.{uppermost, fault_of};
 ghost use Rattle.schedule.specs.declared.record.Record.{Record};
 ghost use Rattle.schedule.specs.declared.transaction.Change.{Change};
-ghost use Rattle.schedule.specs.Records.{seven_blanks};
 ghost use Rattle.extract.specs.Stages.{has_room};
 ghost use Rattle.extract.specs.Progress.{idle};
 ghost use Rattle.extract.specs.Judging.{mismatches, opened_by, idle_lines, Told};
@@ -32,26 +31,16 @@ fn is_mismatch(header: &Header, reference: &[u8; 7]) -> bool
 }
 
 impl Extract {
-    // No extract is open, and a reference is in force.
-    fn idle_with(reference: [u8; 7]) -> Extract
-        ensures seen { seen result [] ≡ idle }
-        ensures reference { result.reference ≡ reference }
+    // No extract is open.
+    pub fn new() -> Extract
+        ensures { seen result [] ≡ idle }
     {
         Extract {
             stage: Stage::Idle,
             taken: 0,
             current: *b"       ",
             draft: Transaction::New(Schedule::blank()),
-            reference,
         }
-    }
-
-    // No extract is open, and none was ever confirmed: the reference in force is seven blanks.
-    pub fn new() -> Extract
-        ensures seen { seen result [] ≡ idle }
-        ensures reference { result.reference ≡ seven_blanks }
-    {
-        Extract::idle_with(*b"       ")
     }
 
     pub fn stage(&self) -> Stage
@@ -67,24 +56,33 @@ impl Extract {
         self.taken
     }
 
-    // Opens an extract with its HD row, or says why it is turned away.
-    pub fn open(&mut self, row: &Row) -> Result<(), ColumnFault>
-        ensures told { (m : List Record) (c : ℕ) (cs : List Change) → Told (seen self.new cs) (opened_by (judged_at m c self.old cs) row.now.identity row.now.bytes) result }
+    // The current file reference of the open extract.
+    pub fn current(&self) -> [u8; 7]
+        ensures { result ≡ self.now.current }
+    {
+        self.current
+    }
+
+    // Opens an extract with its HD row over the reference in force, or says why it is turned away.
+    pub fn open(&mut self, row: &Row, reference: &[u8; 7]) -> Result<(), ColumnFault>
+        ensures told { (m : List Record) (c : ℕ) (cs : List Change) → Told (seen self.new cs) (opened_by (judged_at m c self.old cs reference.now) row.now.identity row.now.bytes) result }
         ensures room { (n : ℕ) → has_room self.old.stage n ≡ true → has_room self.new.stage n ≡ true }
         ensures unchanged { is_ok result ≡ false → self.new ≡ self.old }
-        ensures reference { self.new.reference ≡ self.old.reference }
     {
         match (self.stage, row.identity()) {
             (Stage::Idle, Identity::Header) => {}
             _ => return Err(Refusal::OutOfPlace.at(1)),
         }
         let header = row.header()?;
-        if is_mismatch(&header, &self.reference) {
+        if is_mismatch(&header, reference) {
             return Err(Refusal::ReferenceMismatch.at(40));
         }
-        self.current = header.current;
-        self.stage = Stage::Between;
-        self.taken = 1;
+        *self = Extract {
+            stage: Stage::Between,
+            taken: 1,
+            current: header.current,
+            draft: self.draft,
+        };
         Ok(())
     }
 
@@ -93,12 +91,11 @@ impl Extract {
         ensures told { fault_of result ≡ uppermost (idle_lines self.old.stage) }
         ensures dropped { is_ok result ≡ true → seen self.new [] ≡ idle }
         ensures unchanged { is_ok result ≡ false → self.new ≡ self.old }
-        ensures reference { self.new.reference ≡ self.old.reference }
     {
         if self.stage == Stage::Idle {
             return Err(Refusal::OutOfPlace.at(0));
         }
-        *self = Extract::idle_with(self.reference);
+        *self = Extract::new();
         Ok(())
     }
 }

@@ -1,5 +1,5 @@
 // What a row does to the open extract.
-ghost use Rattle.std.specs.Prelude.{◌≡◌, ◌≤◌, Bool, true, false, length, is_ok};
+ghost use Rattle.std.specs.Prelude.{◌≡◌, ℕ, ◌≤◌, List, Bool, true, false, length, is_ok};
 ghost use Rattle.overlay.specs.Overlays.{pending_in};
 ghost use Rattle.extract.specs.Stages.{has_room};
 ghost use Rattle.extract.specs.Judging.{taken_by, Told};
@@ -16,11 +16,10 @@ use timetable::Store;
 impl Extract {
     // Takes a row into the extract, or says why it is turned away. It is judged by the stage and the row's identity together.
     pub fn take<S: Store>(&mut self, overlay: &mut Overlay<S>, row: &Row) -> Result<(), ColumnFault>
-        ensures told { has_room self.old.stage (length (pending_in overlay.old.pending)) ≡ true → Told (seen self.new (pending_in overlay.new.pending)) (taken_by (standing S.Timetable.map S.Timetable.capacity self.old overlay.old) row.now.identity row.now.bytes) result }
+        ensures told { (reference : List ℕ) → has_room self.old.stage (length (pending_in overlay.old.pending)) ≡ true → Told (seen self.new (pending_in overlay.new.pending)) (taken_by (standing S.Timetable.map S.Timetable.capacity self.old overlay.old reference) row.now.identity row.now.bytes) result }
         ensures room { has_room self.old.stage (length (pending_in overlay.old.pending)) ≡ true → has_room self.new.stage (length (pending_in overlay.new.pending)) ≡ true }
         ensures unchanged { is_ok result ≡ false → (self.new ≡ self.old) × (overlay.new ≡ overlay.old) }
         ensures store { overlay.new.store ≡ overlay.old.store }
-        ensures reference { self.new.reference ≡ self.old.reference }
     {
         match (self.stage, row.identity()) {
             (Stage::Between, Identity::BasicSchedule) => {
