@@ -1,8 +1,10 @@
 // Tables of keyed elements over slots that a caller lends.
 #![tactic(auto)]
 
+pub mod as_map;
 pub mod halving;
 pub mod keys;
+pub mod mapped;
 pub mod moves;
 pub mod ordered;
 pub mod shift;

@@ -1,4 +1,2 @@
 pub mod Absent
-pub mod BagMaps
-pub mod BagWhole
-pub mod TableWhole
+pub mod Whole

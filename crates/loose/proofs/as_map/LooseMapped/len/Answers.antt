@@ -1,0 +1,7 @@
+use Rattle.std.proofs.Common.{sym, ◌∙◌}
+use Rattle.maps.proofs.Heaped.{length_gathered}
+use Rattle.ordered.proofs.Laws.{lawful}
+use Rattle.loose.proofs.as_map.LooseMapped.len.Goals as goal
+
+pub returns-clause-value : goal.returns-clause-value
+returns-clause-value g c = c.len.ensures.value ∙ sym (length_gathered g.E.Key.KeyOrder.before g.E.Keyed.keyed (lawful g.met.E.Key.KeyOrder) _ c.args.self.now.distinct)
