@@ -9,6 +9,7 @@ ghost use Rattle.board.specs.Filling.{Added, Fresh, Trained};
 use crate::display::StationDay;
 use crate::line::{Line, LineKey};
 use forms::letters::Stp;
+use ordered::mapped::Mapped;
 use ordered::ordered::Ordered;
 use running::force::in_force;
 use schedule::check::is_at;

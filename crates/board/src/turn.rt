@@ -12,6 +12,7 @@ use crate::line::Line;
 use calendar::LAST_DAY;
 use cif::refusal::{ColumnFault, Refusal};
 use forms::places::tiploc;
+use ordered::mapped::Mapped;
 use ordered::ordered::Ordered;
 use timetable::{Store, Timetable};
 

@@ -1,7 +1,6 @@
 // Tables of keyed elements in any order, over slots that a caller lends.
 #![tactic(auto)]
 
-pub mod as_map;
 pub mod loose;
 pub mod scans;
 pub mod table;

@@ -1,11 +1,13 @@
 // What a loose table can be asked, and how it changes.
-ghost use Rattle.std.specs.Prelude.{◌≡◌, ℕ, ◌-◌, ◌<◌, Bool, true, false, List, [], length, take, is_ok, slice_index_or, slice_set};
-ghost use Rattle.maps.specs.Maps.{lookup, ceiling, gathered};
-ghost use Rattle.ordered.specs.Tables.{items, room, Put, Removed, RestKept};
+ghost use Rattle.std.specs.Prelude.{◌≡◌, ℕ, ◌-◌, ◌<◌, [], length, take, slice_index_or, slice_set};
+ghost use Rattle.maps.specs.Maps.{lookup, gathered};
+ghost use Rattle.ordered.specs.Tables.{items, room, RestKept};
+ghost use Rattle.loose.specs.Maps.{map_rises, map_fits};
 
 use crate::loose::Loose;
 use crate::scans::{lowest, scan};
 use ordered::keys::{KeyOrder, Keyed};
+use ordered::mapped::Mapped;
 use ordered::slots::Slots;
 use ordered::table::Full;
 
@@ -19,25 +21,33 @@ impl<E: Keyed> Loose<'_, E> {
             inner: Slots::new(slots),
         }
     }
+}
 
-    pub fn len(&mut self) -> usize
-        ensures value { result ≡ length (items self.old.inner) }
+// The map is the elements put into the order of their keys.
+impl<E: Keyed> Mapped<E> for Loose<'_, E> {
+    ghost map = { λ t. gathered E.Key.KeyOrder.before E.Keyed.keyed (items t.inner) };
+
+    ghost slots = { λ t. t.inner };
+
+    ghost rises = { λ t. map_rises E.Key.KeyOrder.before E.Keyed.keyed E.Key.KeyOrder.irreflexive E.Key.KeyOrder.transitive E.Key.KeyOrder.total (items t.inner) };
+
+    ghost fits = { λ t. map_fits E.Key.KeyOrder.before E.Keyed.keyed E.Key.KeyOrder.irreflexive E.Key.KeyOrder.transitive E.Key.KeyOrder.total t.inner t.distinct };
+
+    fn len(&mut self) -> usize
+        ensures value { result ≡ length (gathered E.Key.KeyOrder.before E.Keyed.keyed (items self.old.inner)) }
+        ensures held { result ≡ length (items self.old.inner) }
         ensures same { self.new ≡ self.old }
     {
         self.inner.len()
     }
 
-    // How many elements there is room for, those that are held included.
-    pub fn room(&mut self) -> usize
-        ensures value { result ≡ room self.old.inner }
-        ensures same { self.new ≡ self.old }
-    {
+    fn room(&mut self) -> usize {
         self.inner.room()
     }
 
-    // The element of a key.
-    pub fn find(&mut self, key: E::Key) -> Option<E>
-        ensures value { result ≡ lookup E.Key.KeyOrder.before E.Keyed.keyed (items self.old.inner) key }
+    fn find(&mut self, key: E::Key) -> Option<E>
+        ensures value { result ≡ lookup E.Key.KeyOrder.before E.Keyed.keyed (gathered E.Key.KeyOrder.before E.Keyed.keyed (items self.old.inner)) key }
+        ensures held { result ≡ lookup E.Key.KeyOrder.before E.Keyed.keyed (items self.old.inner) key }
         ensures same { self.new ≡ self.old }
     {
         match scan(self.inner.held(), key) {
@@ -46,20 +56,12 @@ impl<E: Keyed> Loose<'_, E> {
         }
     }
 
-    // The lowest key that is not before `probe`.
-    pub fn not_before(&mut self, probe: E::Key) -> Option<E::Key>
-        ensures value { result ≡ ceiling E.Key.KeyOrder.before E.Keyed.keyed (gathered E.Key.KeyOrder.before E.Keyed.keyed (items self.old.inner)) probe }
-        ensures same { self.new ≡ self.old }
-    {
+    fn not_before(&mut self, probe: E::Key) -> Option<E::Key> {
         lowest(self.inner.held(), probe)
     }
 
-    // Puts an element in the place of the one of its key, or adds it after the others.
-    pub fn put(&mut self, entry: E) -> Result<(), Full>
-        ensures put { Put E.Key.KeyOrder.before E.Keyed.keyed (gathered E.Key.KeyOrder.before E.Keyed.keyed (items self.old.inner)) (gathered E.Key.KeyOrder.before E.Keyed.keyed (items self.new.inner)) (room self.old.inner) entry (is_ok result) }
-        ensures unchanged { is_ok result ≡ false → self.new ≡ self.old }
-        ensures rest { RestKept self.old.inner self.new.inner }
-    {
+    // A new element goes after the others.
+    fn put(&mut self, entry: E) -> Result<(), Full> {
         match scan(self.inner.held(), entry.key()) {
             Some(place) => {
                 self.inner.set(place, entry);
@@ -69,12 +71,8 @@ impl<E: Keyed> Loose<'_, E> {
         }
     }
 
-    // Takes the element of a key out, puts the last one in its place, and says whether there was one.
-    pub fn remove(&mut self, key: E::Key) -> bool
-        ensures removed { Removed E.Key.KeyOrder.before E.Keyed.keyed (gathered E.Key.KeyOrder.before E.Keyed.keyed (items self.old.inner)) (gathered E.Key.KeyOrder.before E.Keyed.keyed (items self.new.inner)) key result }
-        ensures unchanged { result ≡ false → self.new ≡ self.old }
-        ensures rest { RestKept self.old.inner self.new.inner }
-    {
+    // The last element takes the place of the one that goes.
+    fn remove(&mut self, key: E::Key) -> bool {
         match scan(self.inner.held(), key) {
             Some(place) => {
                 take_out(&mut self.inner, place);

@@ -1,7 +1,6 @@
 // Tables of keyed elements over slots that a caller lends.
 #![tactic(auto)]
 
-pub mod as_map;
 pub mod halving;
 pub mod keys;
 pub mod mapped;

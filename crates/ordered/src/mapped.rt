@@ -1,5 +1,5 @@
 // A table seen as a map: its elements in the order of their keys.
-ghost use Rattle.std.specs.Prelude.{◌≡◌, ℕ, ◌≤◌, Bool, true, false, List, length, is_ok};
+ghost use Rattle.std.specs.Prelude.{◌≡◌, ◌≤◌, true, false, List, length, is_ok};
 ghost use Rattle.maps.specs.Maps.{ascending, lookup, ceiling};
 ghost use Rattle.ordered.specs.declared.slots.Slots.{Slots};
 ghost use Rattle.ordered.specs.Tables.{room, Put, Removed, RestKept};
@@ -13,6 +13,7 @@ pub trait Mapped<E: Keyed> {
 
     ghost slots: { Self → Slots E };
 
+    // How many elements are held.
     fn len(&mut self) -> usize
         ensures value { result ≡ length (map self.old) }
         ensures same { self.new ≡ self.old };
@@ -44,7 +45,9 @@ pub trait Mapped<E: Keyed> {
         ensures unchanged { result ≡ false → self.new ≡ self.old }
         ensures rest { RestKept (slots self.old) (slots self.new) };
 
+    // The map of every table is in the order of its keys.
     ghost rises: { (x : Self) → ascending E.Key.KeyOrder.before E.Keyed.keyed (map x) ≡ true };
 
+    // Every table has slots for its elements.
     ghost fits: { (x : Self) → length (map x) ≤ room (slots x) };
 }

@@ -1,5 +1,5 @@
 // What is kept, as a store.
-ghost use Rattle.std.specs.Prelude.{◌≡◌, ℕ, ◌≤◌, Bool, true, false, length, is_ok};
+ghost use Rattle.std.specs.Prelude.{◌≡◌, ◌≤◌, false, length, is_ok};
 ghost use Rattle.ordered.specs.Tables.{room, RestKept};
 ghost use Rattle.timetable.specs.Timetables.{Puts, Removes};
 

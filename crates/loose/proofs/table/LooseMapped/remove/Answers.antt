@@ -2,7 +2,7 @@ use Rattle.std.proofs.Common.{length, refl, subst}
 use Rattle.maps.specs.Places.{Passed, Found}
 use Rattle.ordered.proofs.Laws.{lawful}
 use Rattle.loose.proofs.Piles.{removed_found, removed_passed, swap_apart}
-use Rattle.loose.proofs.loose.Loose.remove.Goals as goal
+use Rattle.loose.proofs.table.LooseMapped.remove.Goals as goal
 
 pub invariant_of-self : goal.invariant_of-self
 invariant_of-self g c =

@@ -4,7 +4,7 @@ use Rattle.ordered.specs.Tables.{items, room}
 use Rattle.ordered.proofs.Changes.{put_hit, hit_rises, put_miss, miss_rises}
 use Rattle.ordered.proofs.Laws.{lawful}
 use Rattle.ordered.proofs.Whole.{same_ordered}
-use Rattle.ordered.proofs.ordered.Ordered.put.Goals as goal
+use Rattle.ordered.proofs.table.OrderedMapped.put.Goals as goal
 
 pub invariant_of-self : goal.invariant_of-self
 invariant_of-self g c =

@@ -3,7 +3,7 @@ use Rattle.std.proofs.lemmas.List.{length-take-le}
 use Rattle.ordered.proofs.Changes.{key_there}
 use Rattle.ordered.proofs.Laws.{lawful}
 use Rattle.ordered.proofs.Whole.{same_ordered}
-use Rattle.ordered.proofs.ordered.Ordered.not_before.Goals as goal
+use Rattle.ordered.proofs.table.OrderedMapped.not_before.Goals as goal
 
 pub returns-clause-value : goal.returns-clause-value
 returns-clause-value g c =

@@ -4,7 +4,7 @@ use Rattle.ordered.specs.Tables.{items}
 use Rattle.ordered.proofs.Changes.{hit_get}
 use Rattle.ordered.proofs.Laws.{lawful}
 use Rattle.ordered.proofs.Whole.{same_ordered}
-use Rattle.ordered.proofs.ordered.Ordered.find.Goals as goal
+use Rattle.ordered.proofs.table.OrderedMapped.find.Goals as goal
 
 pub returns-in-Ok-clause-value : goal.returns-in-Ok-clause-value
 returns-in-Ok-clause-value g c =

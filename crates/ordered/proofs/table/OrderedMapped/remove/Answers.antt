@@ -4,7 +4,7 @@ use Rattle.ordered.specs.Tables.{items}
 use Rattle.ordered.proofs.Changes.{removed_hit, removed_miss, without_rises}
 use Rattle.ordered.proofs.Laws.{lawful}
 use Rattle.ordered.proofs.Whole.{same_ordered}
-use Rattle.ordered.proofs.ordered.Ordered.remove.Goals as goal
+use Rattle.ordered.proofs.table.OrderedMapped.remove.Goals as goal
 
 pub returns-in-Ok-clause-removed : goal.returns-in-Ok-clause-removed
 returns-in-Ok-clause-removed g c =

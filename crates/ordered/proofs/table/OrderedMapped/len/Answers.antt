@@ -1,5 +1,5 @@
 use Rattle.ordered.proofs.Whole.{same_ordered}
-use Rattle.ordered.proofs.ordered.Ordered.len.Goals as goal
+use Rattle.ordered.proofs.table.OrderedMapped.len.Goals as goal
 
 pub returns-clause-same : goal.returns-clause-same
 returns-clause-same g c = same_ordered _ _ c.len.ensures.same

@@ -4,7 +4,7 @@ use Rattle.ordered.specs.Tables.{items}
 use Rattle.ordered.proofs.Laws.{lawful}
 use Rattle.loose.proofs.Piles.{put_found, found_apart, put_passed, passed_apart}
 use Rattle.loose.proofs.Whole.{same_loose}
-use Rattle.loose.proofs.loose.Loose.put.Goals as goal
+use Rattle.loose.proofs.table.LooseMapped.put.Goals as goal
 
 pub invariant_of-self : goal.invariant_of-self
 invariant_of-self g c =

@@ -1,5 +1,0 @@
-use Rattle.loose.proofs.Whole.{same_loose}
-use Rattle.loose.proofs.loose.Loose.len.Goals as goal
-
-pub returns-clause-same : goal.returns-clause-same
-returns-clause-same g c = same_loose _ _ c.len.ensures.same
