@@ -2,7 +2,6 @@
 ghost use Rattle.std.specs.Prelude.{◌≡◌, ℕ, ◌≤◌, Bool, true, false, List, [], ◌∷◌, ◌++◌, length, is_ok};
 ghost use Rattle.cif.specs.Refusals.{fault_of};
 ghost use Rattle.schedule.specs.Records.{seven_blanks};
-ghost use Rattle.timetable.specs.Timetables.{IsMap};
 ghost use Rattle.extract.specs.Progress.{idle, after_row};
 ghost use Rattle.controller.specs.Calls.{Open as ToOpen, Row as ToHear, Abandon as ToAbandon, refusal_of};
 ghost use Rattle.controller.specs.Agreeing.{Agrees};
@@ -21,7 +20,7 @@ impl<S: Store> Controller<S> {
         ensures idle { progress_in result ≡ idle }
         ensures store { result.overlay.store ≡ store }
         ensures reference { result.reference ≡ seven_blanks }
-        ensures agrees { IsMap (S.Timetable.map store) → length (S.Timetable.map store) ≤ S.Timetable.capacity store → Agrees (S.Timetable.map store) (S.Timetable.capacity store) [] (progress_in result) }
+        ensures agrees { length (S.Timetable.map store) ≤ S.Timetable.capacity store → Agrees (S.Timetable.map store) (S.Timetable.capacity store) [] (progress_in result) }
     {
         Controller {
             overlay: Overlay::new(store),

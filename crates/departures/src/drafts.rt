@@ -4,6 +4,7 @@ ghost use Rattle.std.specs.declared.option.Option.TheVariants.{None};
 ghost use Rattle.departures.specs.Drafts.{can_ask, is_terminus};
 
 use cif::content::{BasicSchedule, Change, Content, Location};
+use extract::asking::key_in;
 use forms::letters::Stp;
 use schedule::key::Key;
 use schedule::schedule::Schedule;
@@ -74,11 +75,7 @@ impl Draft {
 }
 
 fn begin(basic: &BasicSchedule) -> (Draft, Option<Asked>) {
-    let key = Key {
-        uid: basic.uid,
-        from: basic.from.0,
-        stp: basic.stp,
-    };
+    let key = key_in(basic);
     let days = match basic.change {
         Change::Delete => return (Draft::new(), Some(Asked::Remove(key))),
         Change::New(days) | Change::Revise(days) => days,

@@ -82,13 +82,12 @@ fn run_extracts<S: Store + Drop>(
     rt: &HostRuntime,
     mut store: S,
     wanted: Wanted,
-    base: &str,
+    base: Option<&str>,
     files: &[String],
 ) -> anyhow::Result<()> {
-    let refused = if base == "-" {
-        0
-    } else {
-        boards::load_file(rt, &mut store, base)?
+    let refused = match base {
+        Some(base) => boards::load_file(rt, &mut store, base)?,
+        None => 0,
     };
     extracts::print_head(rt, &mut store, wanted.store, refused)?;
     let mut extracts = Extracts::new(rt, store, wanted)?;

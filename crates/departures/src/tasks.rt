@@ -87,12 +87,12 @@ fn slots_in(capacity: &str) -> anyhow::Result<usize>
     Ok(slots)
 }
 
-// What is done over one store, after the files or the base were put into it.
+// What is done over one store, after the files, or the base if there is one, were put into it.
 #[derive(Clone, Copy)]
 pub enum Work<'a> {
     Board(&'a [String]),
     Turns(u64, &'a [String]),
-    Extracts(&'a str, &'a [String]),
+    Extracts(Option<&'a str>, &'a [String]),
 }
 
 // A task with the names of its files.
@@ -125,12 +125,11 @@ impl<'a> TryFrom<&'a [String]> for Task<'a> {
                 let (wanted, files) = Wanted::from_words(rest)?;
                 Ok(Task::OverStore(wanted, Work::Turns(times, files)))
             }
-            ("extract", _) => match Wanted::from_words(rest)? {
-                (wanted, [base, files @ ..]) if !files.is_empty() => {
-                    Ok(Task::OverStore(wanted, Work::Extracts(base.as_str(), files)))
-                }
-                _ => Err(anyhow!(USAGE)),
-            },
+            ("extract", [_, _, _, _, base, files @ ..]) if !files.is_empty() => {
+                let (wanted, _) = Wanted::from_words(rest)?;
+                let base = Some(base.as_str()).filter(|base| *base != "-");
+                Ok(Task::OverStore(wanted, Work::Extracts(base, files)))
+            }
             _ => Err(anyhow!(USAGE)),
         }
     }

@@ -26,7 +26,7 @@ use timetable::Store;
 pub const ROWS: u16 = 9_999;
 
 // The key of a BS row.
-fn key_in(b: &BasicSchedule) -> Key
+pub fn key_in(b: &BasicSchedule) -> Key
     ensures { result ≡ key_in b.now }
 {
     Key {
