@@ -3,3 +3,5 @@ pub mod Drafts
 pub mod Tallies
 pub mod Handing
 pub mod Keeping
+pub mod Words
+pub mod Blanks

@@ -2,6 +2,7 @@
 ghost use Rattle.std.specs.Prelude.{◌≡◌, ◌*◌, min, length, IfOk};
 ghost use Rattle.ordered.specs.Tables.{items};
 ghost use Rattle.departures.specs.Stations.{filled_up};
+ghost use Rattle.departures.specs.Blanks.{blank_line};
 
 use crate::drafts::{Asked, Draft};
 use crate::tasks::Wanted;
@@ -16,7 +17,9 @@ use std::fs;
 use timetable::{Store, Timetable};
 
 // A line for slots that hold nothing yet.
-pub fn empty_line() -> Line {
+pub fn empty_line() -> Line
+    ensures { result ≡ blank_line }
+{
     Line {
         key: LineKey {
             minute: 0,

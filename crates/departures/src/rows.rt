@@ -1,5 +1,5 @@
 // Rows one by one: what each holds, or why it is turned away.
-ghost use Rattle.std.specs.Prelude.{◌≡◌, ℕ, ◌+◌, ◌<◌, ◌≢◌, min, slice_index, fold};
+ghost use Rattle.std.specs.Prelude.{◌≡◌, ℕ, ◌+◌, ◌<◌, ◌≢◌, min, slice_index, fold, true, is_ok, IfErr};
 ghost use Rattle.cif.specs.Refusals.{number_of};
 ghost use Rattle.departures.specs.Tallies.{counted};
 
@@ -59,6 +59,18 @@ impl Tally {
     {
         let n = refusal.number() as usize;
         self.refused[n] = self.refused[n].saturating_add(1);
+    }
+
+    // Counts a row by what came of it.
+    fn note(&mut self, outcome: &Result<Content, RowFault>)
+        ensures read { is_ok outcome.now ≡ true → self.new ≡ record self.old { done = counted (self.old.done + 1) } }
+        ensures refused { IfErr outcome.now (λ e. slice_index self.new.refused (number_of e.fault.refusal) ≡ counted (slice_index self.old.refused (number_of e.fault.refusal) + 1)) }
+        ensures others { IfErr outcome.now (λ e. (k : ℕ) → k ≢ number_of e.fault.refusal → slice_index self.new.refused k ≡ slice_index self.old.refused k) }
+    {
+        match outcome {
+            Ok(_) => self.note_done(),
+            Err(fault) => self.note_refused(fault.fault.refusal),
+        }
     }
 
     pub fn add(&mut self, other: &Tally)
@@ -121,10 +133,7 @@ pub fn print_file(rt: &HostRuntime, name: &str) -> anyhow::Result<Tally> {
     let mut tally = Tally::new();
     for (place, row) in Rows::new(bytes.as_slice()).enumerate() {
         let outcome = read(row);
-        match &outcome {
-            Ok(_) => tally.note_done(),
-            Err(fault) => tally.note_refused(fault.fault.refusal),
-        }
+        tally.note(&outcome);
         print_row(rt, place + 1, &outcome)?;
     }
     let rows = tally.rows();

@@ -1,4 +1,7 @@
 // What rows hold, in plain words.
+ghost use Rattle.std.specs.Prelude.{◌≡◌, Some};
+ghost use Rattle.departures.specs.Words.{stage_named};
+
 use cif::content::{BasicSchedule, Change, Content, Header, Location, Running};
 use cif::identity::Identity;
 use cif::refusal::{Refusal, RowFault};
@@ -248,7 +251,10 @@ impl Display for FaultWords<'_> {
     }
 }
 
-pub fn stage_name(stage: Stage) -> &'static str {
+// The name of a stage, by which it is told from every other.
+pub fn stage_name(stage: Stage) -> &'static str
+    ensures { stage_named result.now ≡ Some stage }
+{
     match stage {
         Stage::Idle => "idle",
         Stage::Between => "between",
