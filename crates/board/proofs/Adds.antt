@@ -8,7 +8,8 @@ use Rattle.maps.specs.Maps.{lookup, including}
 use Rattle.maps.proofs.Maps.{same_is, same_level, lookup_including}
 use Rattle.ordered.specs.Tables.{Put}
 use Rattle.schedule.specs.declared.record.Record.{Record}
-use Rattle.schedule.specs.Records.{is_at, visits, every_call, few_visits}
+use Rattle.std.specs.List.{list_all}
+use Rattle.schedule.specs.Records.{is_at, visits, few_visits}
 use Rattle.running.proofs.Forces.{some_is, none_some}
 use Rattle.board.specs.declared.line.LineKey.{LineKey}
 use Rattle.board.specs.declared.line.Line.{Line}
@@ -134,10 +135,10 @@ module _ (station : List ℕ) (r : Record) (p : ℕ) (xs ys : List Line) (a : Ad
 pub two_visits : (t : List ℕ) (cs : List Location) → few_visits cs ≡ true → visits t cs ≤ 2
 two_visits t cs few = ⊎_elim (λ h. h) (λ none. omega arith) (look cs few)
   where
-    look : (ds : List Location) → every_call (λ c. leb (visits c.tiploc cs) 2) ds ≡ true → (visits t cs ≤ 2) ⊎ (visits t ds ≡ 0)
+    look : (ds : List Location) → list_all (λ c. leb (visits c.tiploc cs) 2) ds ≡ true → (visits t cs ≤ 2) ⊎ (visits t ds ≡ 0)
     look [] e = inr refl
     look (d ∷ ds) e =
-        let q = and_parts (leb (visits d.tiploc cs) 2) (every_call (λ c. leb (visits c.tiploc cs) 2) ds) e in
+        let q = and_parts (leb (visits d.tiploc cs) 2) (list_all (λ c. leb (visits c.tiploc cs) 2) ds) e in
         ⊎_elim
         (λ (u : is_at t d ≡ true). inl (subst (λ (z : List ℕ). visits z cs ≤ 2) ((bytes_eq-Decides d.tiploc t).0 u) (leb-true (visits d.tiploc cs) 2 q.0)))
         (λ (u : is_at t d ≡ false). ⊎_elim (λ h. inl h) (λ none. inr (cond-false (is_at t d) _ _ u ∙ none)) (look ds q.1))

@@ -1,5 +1,6 @@
 -- Which schedule of a train is in force on a day.
 use Rattle.std.specs.Prelude.{◌≡◌, ℕ, ◌<◌, ◌≤◌, Bool, true, false, ◌&&◌, ◌||◌, ◌⊎◌, List, get_or, Some, None, Option, ◌==◌, nat_le, nat_lt, slice_index_or}
+use Rattle.std.specs.Option.{option_map}
 use Rattle.calendar.specs.Calendar.{weekday}
 use Rattle.schedule.specs.declared.record.Record.{Record}
 use Rattle.schedule.specs.declared.schedule.Schedule.{Schedule}
@@ -43,5 +44,4 @@ takes here day (Some best) = covering here day && outranking here best
 
 -- the record of a schedule, if there is one
 abbrev pub held : Option Schedule → Option Record
-held None = None
-held (Some s) = Some s.plain
+held o = option_map (λ (s : Schedule). s.plain) o

@@ -25,13 +25,9 @@ abbrev pub visits : List ℕ → List Location → ℕ
 visits tiploc [] = 0
 visits tiploc (c ∷ cs) = cond (is_at tiploc c) (visits tiploc cs + 1) (visits tiploc cs)
 
--- every call passes a test
-abbrev pub every_call : (Location → Bool) → List Location → Bool
-every_call test calls = list_all test calls
-
 -- no TIPLOC appears in more than two calls
 abbrev pub few_visits : List Location → Bool
-few_visits calls = every_call (λ c. leb (visits c.tiploc calls) 2) calls
+few_visits calls = list_all (λ c. leb (visits c.tiploc calls) 2) calls
 
 -- whether there is no time
 abbrev pub no_time : Option ℕ → Bool
@@ -95,7 +91,7 @@ is_schedule r =
     in_range r
     && (nat_le r.count 48
     && (few_visits (kept_calls r)
-    && (every_call is_filler (drop r.count r.calls) && bare_if_cancelled r)))
+    && (list_all is_filler (drop r.count r.calls) && bare_if_cancelled r)))
 
 -- every record of a list is a schedule
 abbrev pub every_schedule : List Record → Bool

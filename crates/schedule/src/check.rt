@@ -1,7 +1,8 @@
 // The check that makes a schedule of a record.
 ghost use Rattle.std.specs.Prelude.{◌≡◌, ◌≤◌, true, false, ◌&&◌, length, take, drop, MatchResult, nat_le};
 ghost use Rattle.std.specs.Str.{bytes_eq};
-ghost use Rattle.schedule.specs.Records.{is_at, visits, few_visits, is_filler, every_call, bare_if_cancelled, is_schedule};
+ghost use Rattle.std.specs.List.{list_all};
+ghost use Rattle.schedule.specs.Records.{is_at, visits, few_visits, is_filler, bare_if_cancelled, is_schedule};
 
 use crate::key::Key;
 use crate::record::{CALLS, Record};
@@ -50,7 +51,7 @@ fn is_filler(call: &Location) -> bool
 
 // Whether all calls are fillers.
 fn all_fillers(calls: &[Location]) -> bool
-    ensures { result ≡ every_call is_filler calls.now }
+    ensures { result ≡ list_all is_filler calls.now }
 {
     calls.iter().all(is_filler)
 }
@@ -58,7 +59,7 @@ fn all_fillers(calls: &[Location]) -> bool
 // Whether the first calls, so many as are counted, visit no TIPLOC too often, and the others are fillers.
 fn are_kept_then_filled(calls: &[Location], count: usize) -> bool
     requires { count ≤ length calls.now }
-    ensures { result ≡ (few_visits (take count calls.now) && every_call is_filler (drop count calls.now)) }
+    ensures { result ≡ (few_visits (take count calls.now) && list_all is_filler (drop count calls.now)) }
 {
     few_visits(&calls[..count]) && all_fillers(&calls[count..])
 }
