@@ -2,7 +2,8 @@
 ghost use Rattle.std.specs.Prelude.{◌≡◌, false, is_ok, IfOk};
 ghost use Rattle.cif.specs.Refusals.{fault_of};
 ghost use Rattle.controller.specs.Calls.{refusal_of};
-ghost use Rattle.controller.specs.Shown.{standing_in};
+ghost use Rattle.controller.specs.Shown.{progress_in, standing_in};
+ghost use Rattle.extract.specs.Progress.{idle};
 ghost use Rattle.departures.specs.Handing.{handed};
 
 use crate::boards::{filled, line_slots, print_refused, shown_lines};
@@ -56,7 +57,8 @@ impl<'a, S: Store + Drop> Extracts<'a, S> {
         mut store: S,
         wanted: Wanted<'a>,
     ) -> Result<Extracts<'a, S>, AllocError>
-        ensures { IfOk result (λ extracts. extracts.controller.overlay.store ≡ store) }
+        ensures store { IfOk result (λ extracts. extracts.controller.overlay.store ≡ store) }
+        ensures idle { IfOk result (λ extracts. progress_in extracts.controller ≡ idle) }
     {
         let lines = line_slots(rt, &mut store)?;
         Ok(Extracts {

@@ -1,6 +1,6 @@
 // The schedules of files put into both stores.
-ghost use Rattle.std.specs.Prelude.{◌≡◌, true, min, length};
-ghost use Rattle.ordered.specs.Tables.{room};
+ghost use Rattle.std.specs.Prelude.{◌≡◌, true, min, [], length};
+ghost use Rattle.ordered.specs.Tables.{items, room};
 ghost use Rattle.schedule.specs.Records.{is_schedule};
 ghost use Rattle.departures.specs.Keeping.{SameRooms};
 
@@ -53,6 +53,7 @@ pub struct Both<'a> {
 impl<'a> Both<'a> {
     // Two empty stores, each over its slots.
     pub fn new(table: &'a mut [Record], bag: &'a mut [Record]) -> Both<'a>
+        ensures empty { (items result.table.rows.inner ≡ []) × (items result.bag.rows.inner ≡ []) }
         ensures table { room result.table.rows.inner ≡ min (length table.old) 65535 }
         ensures bag { room result.bag.rows.inner ≡ min (length bag.old) 65535 }
     {
