@@ -7,6 +7,7 @@ use Rattle.schedule.specs.declared.record.Record.{Record}
 use Rattle.schedule.specs.Records.{is_at, is_cancellation}
 use Rattle.timetable.specs.Timetables.{schedule_of}
 use Rattle.running.specs.Running.{InForce}
+use Rattle.board.specs.declared.display.StationDay.{StationDay}
 use Rattle.board.specs.declared.line.LineKey.{LineKey}
 use Rattle.board.specs.declared.line.Line.{Line}
 
@@ -60,6 +61,11 @@ pub record BoardOf (m : List Record) (station : List ℕ) (day : ℕ) (lines : L
   pub ordered : ascending line_before line_key lines ≡ true
   pub only : (l : Line) → On lines l → IsLine m station day l
   pub every : (l : Line) → IsLine m station day l → On lines l
+
+-- the lines of a board for the station and day that it has, if it has any
+abbrev pub LinesFor : List Record → Option StationDay → List Line → Type 0
+LinesFor m (Some s) lines = BoardOf m s.station s.day lines
+LinesFor m None lines = lines ≡ []
 
 -- those rules leave no choice of the lines
 abbrev pub BoardIsOne : Type 0

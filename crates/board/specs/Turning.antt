@@ -5,10 +5,14 @@ use Rattle.cif.specs.declared.refusal.Refusal.TheVariants.{NoSuchBoard, TooFewSl
 use Rattle.cif.specs.Refusals.{Line, line}
 use Rattle.board.specs.declared.display.StationDay.{StationDay}
 
+-- the line of a board that has fewer line slots than twice the capacity
+abbrev pub slot_lines : ℕ → ℕ → List Line
+slot_lines slots capacity = line TooFewSlots 0 (nat_lt slots (2 * capacity)) ∷ []
+
 -- the table of refusals of a turn: the station is not a seven-byte TIPLOC or the day is above 36,524; the line slots are fewer than twice the capacity
 abbrev pub turn_lines : List ℕ → ℕ → ℕ → ℕ → List Line
 turn_lines station day slots capacity =
-    line NoSuchBoard 0 (not (is_tiploc station) || nat_lt 36524 day) ∷ line TooFewSlots 0 (nat_lt slots (2 * capacity)) ∷ []
+    line NoSuchBoard 0 (not (is_tiploc station) || nat_lt 36524 day) ∷ slot_lines slots capacity
 
 -- the station and day that a board is turned to, where the station is a TIPLOC and the day not above 36,524
 abbrev pub shown_for : List ℕ → ℕ → Option StationDay

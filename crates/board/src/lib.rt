@@ -3,6 +3,7 @@
 
 pub mod display;
 pub mod fill;
+pub mod follow;
 pub mod laws;
 pub mod line;
 pub mod order;

@@ -1,5 +1,5 @@
 // What a board can be asked to do.
-ghost use Rattle.std.specs.Prelude.{◌≡◌, ℕ, ◌*◌, ◌<◌, ◌≤◌, Bool, true, false, List, [], length, is_ok, Some, None, MatchOption, slice_index_or};
+ghost use Rattle.std.specs.Prelude.{◌≡◌, ℕ, ◌*◌, ◌<◌, ◌≤◌, Bool, true, false, List, [], length, is_ok, Some, None, MatchOption, slice_get, slice_index_or};
 ghost use Rattle.cif.specs.Refusals.{uppermost, fault_of};
 ghost use Rattle.ordered.specs.Tables.{items, room};
 ghost use Rattle.board.specs.declared.line.Line.{Line};
@@ -50,6 +50,7 @@ impl Board<'_> {
 
     // The line at a place counted from 0.
     pub fn tell(&mut self, place: usize) -> Option<Line>
+        ensures value { result ≡ slice_get (items self.old.lines.inner) place }
         ensures line { MatchOption result (length (items self.old.lines.inner) ≤ place) (λ l. (place < length (items self.old.lines.inner)) × ((d : Line) → l ≡ slice_index_or (items self.old.lines.inner) place d)) }
         ensures same { self.new ≡ self.old }
     {
@@ -67,13 +68,12 @@ impl Board<'_> {
         ensures board { is_ok result ≡ true → BoardOf (S.Timetable.map store.old) station.now day (items self.new.lines.inner) }
         ensures few { is_ok result ≡ true → length (items self.new.lines.inner) ≤ 2 * length (S.Timetable.map store.old) }
         ensures set { is_ok result ≡ true → self.new.shown ≡ Some (record { station = station.now; day = day }) }
+        ensures slots { room self.new.lines.inner ≡ room self.old.lines.inner }
         ensures unchanged { is_ok result ≡ false → self.new ≡ self.old }
         ensures same { store.new ≡ store.old }
     {
         let shown = StationDay::asked(station, day).ok_or(Refusal::NoSuchBoard.at(0))?;
-        if self.lines.room() < 2 * store.capacity() {
-            return Err(Refusal::TooFewSlots.at(0));
-        }
+        self.suits(store)?;
         set_lines(store, &mut self.lines, &shown);
         self.shown = Some(shown);
         Ok(())

@@ -9,7 +9,7 @@ use Rattle.cif.specs.declared.refusal.RowFault.{RowFault}
 use Rattle.cif.specs.Refusals.{Line, line, uppermost, then, raised, in_row}
 use Rattle.cif.specs.Rows.{row_lines, identity_in, whole_in}
 use Rattle.cif.specs.Reading.{read_in, field_lines_in, told_in, letters_in, blanks}
-use Rattle.board.specs.Turning.{turn_lines}
+use Rattle.board.specs.Turning.{turn_lines, slot_lines}
 use Rattle.extract.specs.declared.stage.Stage.{Stage}
 use Rattle.extract.specs.declared.stage.Stage.TheVariants.{Idle, Complete}
 use Rattle.extract.specs.Stages.{is_stage}
@@ -78,11 +78,15 @@ held_lines s None = []
 abbrev pub board_lines : Call → ℕ → ℕ → List Line
 board_lines (Open row) slots capacity = []
 board_lines (Row row) slots capacity = []
-board_lines Confirm slots capacity = line TooFewSlots 0 (nat_lt slots (2 * capacity)) ∷ []
+board_lines Confirm slots capacity = slot_lines slots capacity
 board_lines Abandon slots capacity = []
 board_lines (Turn station day) slots capacity = turn_lines station day slots capacity
 board_lines (Tell place) slots capacity = []
 board_lines Tally slots capacity = []
+
+-- the lines of a confirmation: the extract is not complete, or the line slots are too few
+abbrev pub confirm_lines : Standing → ℕ → List Line
+confirm_lines s slots = line OutOfPlace 0 (not (is_stage s.extract.stage Complete)) ∷ slot_lines slots s.capacity
 
 -- THE TABLE OF REFUSALS, in the order of its lines, over what a call is judged by and the board's line slots
 abbrev pub refusals : Call → Standing → ℕ → List Line

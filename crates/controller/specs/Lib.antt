@@ -3,3 +3,5 @@ pub mod Calls
 pub mod Agreeing
 pub mod Shown
 pub mod Laws
+pub mod Ledger
+pub mod Keeping

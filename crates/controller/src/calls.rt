@@ -20,12 +20,14 @@ impl<S: Store> Controller<S> {
         ensures idle { progress_in result ≡ idle }
         ensures store { result.overlay.store ≡ store }
         ensures reference { result.reference ≡ seven_blanks }
+        ensures tally { result.tally ≡ 0 }
         ensures agrees { length (S.Timetable.map store) ≤ S.Timetable.capacity store → Agrees (S.Timetable.map store) (S.Timetable.capacity store) [] (progress_in result) }
     {
         Controller {
             overlay: Overlay::new(store),
             extract: Extract::new(),
             reference: *b"       ",
+            tally: 0,
         }
     }
 
@@ -36,6 +38,7 @@ impl<S: Store> Controller<S> {
         ensures unchanged { is_ok result ≡ false → self.new ≡ self.old }
         ensures store { self.new.overlay.store ≡ self.old.overlay.store }
         ensures reference { self.new.reference ≡ self.old.reference }
+        ensures tally { self.new.tally ≡ self.old.tally }
         ensures agrees { (rows : List (List ℕ)) → Agrees (S.Timetable.map self.old.overlay.store) (S.Timetable.capacity self.old.overlay.store) rows (progress_in self.old) → is_ok result ≡ true
             → Agrees (S.Timetable.map self.new.overlay.store) (S.Timetable.capacity self.new.overlay.store) (rows ++ row.now ∷ []) (progress_in self.new) }
     {
@@ -50,6 +53,7 @@ impl<S: Store> Controller<S> {
         ensures unchanged { is_ok result ≡ false → self.new ≡ self.old }
         ensures store { self.new.overlay.store ≡ self.old.overlay.store }
         ensures reference { self.new.reference ≡ self.old.reference }
+        ensures tally { self.new.tally ≡ self.old.tally }
         ensures agrees { (rows : List (List ℕ)) → Agrees (S.Timetable.map self.old.overlay.store) (S.Timetable.capacity self.old.overlay.store) rows (progress_in self.old) → is_ok result ≡ true
             → Agrees (S.Timetable.map self.new.overlay.store) (S.Timetable.capacity self.new.overlay.store) (rows ++ row.now ∷ []) (progress_in self.new) }
     {
@@ -64,6 +68,7 @@ impl<S: Store> Controller<S> {
         ensures unchanged { is_ok result ≡ false → self.new ≡ self.old }
         ensures store { self.new.overlay.store ≡ self.old.overlay.store }
         ensures reference { self.new.reference ≡ self.old.reference }
+        ensures tally { self.new.tally ≡ self.old.tally }
         ensures agrees { (rows : List (List ℕ)) → Agrees (S.Timetable.map self.old.overlay.store) (S.Timetable.capacity self.old.overlay.store) rows (progress_in self.old) → is_ok result ≡ true
             → Agrees (S.Timetable.map self.new.overlay.store) (S.Timetable.capacity self.new.overlay.store) [] (progress_in self.new) }
     {

@@ -16,6 +16,7 @@ impl<S: Store> Controller<S> {
         ensures unchanged { is_ok result ≡ false → self.new ≡ self.old }
         ensures store { self.new.overlay.store ≡ self.old.overlay.store }
         ensures reference { self.new.reference ≡ self.old.reference }
+        ensures tally { self.new.tally ≡ self.old.tally }
     {
         let row = beside(Row::check(bytes), *b"  ")?;
         let letters = row.letters();
@@ -29,6 +30,7 @@ impl<S: Store> Controller<S> {
         ensures unchanged { is_ok result ≡ false → self.new ≡ self.old }
         ensures store { self.new.overlay ≡ self.old.overlay }
         ensures reference { self.new.reference ≡ self.old.reference }
+        ensures tally { self.new.tally ≡ self.old.tally }
     {
         let row = beside(Row::check(bytes), *b"  ")?;
         let letters = row.letters();

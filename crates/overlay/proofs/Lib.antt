@@ -4,3 +4,4 @@ pub mod Dones
 pub mod Counts
 pub mod Leasts
 pub mod Trains
+pub mod Settled

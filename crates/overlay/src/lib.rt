@@ -10,3 +10,4 @@ pub mod least;
 pub mod overlay;
 pub mod pending;
 pub mod questions;
+pub mod settling;

@@ -20,7 +20,7 @@ pub(crate) fn sets(change: &Change) -> bool
 }
 
 // The schedule that a transaction leaves under its key.
-fn schedule_left(change: &Change) -> Option<Schedule>
+pub(crate) fn schedule_left(change: &Change) -> Option<Schedule>
     requires lawful { is_lawful change.now ≡ true }
     ensures { MatchOption result (leaves change.now ≡ None) (λ s. leaves change.now ≡ Some s.plain) }
 {

@@ -1,0 +1,111 @@
+-- The ledger: what an onlooker writes down of the calls, and what is worked out from it afresh.
+use Rattle.std.specs.Prelude.{◌≡◌, ℕ, min, Bool, true, false, cond, List, [], ◌∷◌, ◌++◌, length, Some, None, Ok, Err, Option, Result, MatchOption, nat_lt, slice_get}
+use Rattle.schedule.specs.declared.record.Record.{Record}
+use Rattle.schedule.specs.declared.transaction.Change.{Change}
+use Rattle.schedule.specs.Records.{seven_blanks}
+use Rattle.overlay.specs.Overlays.{done_all}
+use Rattle.overlay.specs.Laws.{of_train}
+use Rattle.extract.specs.Progress.{progress_of, transactions_of}
+use Rattle.extract.specs.Judging.{Standing}
+use Rattle.board.specs.declared.display.StationDay.{StationDay}
+use Rattle.board.specs.declared.line.Line.{Line}
+use Rattle.board.specs.Lines.{LinesFor}
+use Rattle.controller.specs.declared.fault.ExtractFault.{ExtractFault}
+use Rattle.controller.specs.declared.answer.Answer.{Answer}
+use Rattle.controller.specs.declared.answer.Answer.TheVariants.{Done, Refused, Told, Tally as Total}
+use Rattle.controller.specs.Calls.{Call, Open, Row, Confirm, Abandon, Turn, Tell, Tally, refusal_of}
+
+-- what the store had in it at the start, the rows of the open extract as raw bytes, the confirmed transactions in order,
+-- the reference in force, and the station and day last turned to, if any
+pub record Ledger : Type 0 where
+  pub start : List Record
+  pub rows : List (List ℕ)
+  pub confirmed : List Change
+  pub reference : List ℕ
+  pub shown : Option StationDay
+
+-- a new ledger
+abbrev pub new_ledger : List Record → Ledger
+new_ledger start = record { start = start; rows = []; confirmed = []; reference = seven_blanks; shown = None }
+
+-- a row more
+abbrev pub with_row : Ledger → List ℕ → Ledger
+with_row ℓ row = record { start = ℓ.start; rows = ℓ.rows ++ row ∷ []; confirmed = ℓ.confirmed; reference = ℓ.reference; shown = ℓ.shown }
+
+-- the rows dropped
+abbrev pub without_rows : Ledger → Ledger
+without_rows ℓ = record { start = ℓ.start; rows = []; confirmed = ℓ.confirmed; reference = ℓ.reference; shown = ℓ.shown }
+
+-- the transactions of the rows put after the confirmed ones, their current reference in force, and the rows dropped
+abbrev pub with_confirmed : Ledger → Ledger
+with_confirmed ℓ = record { start = ℓ.start; rows = []; confirmed = ℓ.confirmed ++ transactions_of ℓ.rows; reference = (progress_of ℓ.rows).current; shown = ℓ.shown }
+
+-- station and day set
+abbrev pub with_shown : Ledger → List ℕ → ℕ → Ledger
+with_shown ℓ station day = record { start = ℓ.start; rows = ℓ.rows; confirmed = ℓ.confirmed; reference = ℓ.reference; shown = Some (record { station = station; day = day }) }
+
+-- what an accepted call changes
+abbrev pub accepting : Ledger → Call → Ledger
+accepting ℓ (Open row) = with_row ℓ row
+accepting ℓ (Row row) = with_row ℓ row
+accepting ℓ Confirm = with_confirmed ℓ
+accepting ℓ Abandon = without_rows ℓ
+accepting ℓ (Turn station day) = with_shown ℓ station day
+accepting ℓ (Tell place) = ℓ
+accepting ℓ Tally = ℓ
+
+-- after a call, by whether it was accepted: a refused call changes nothing
+abbrev pub stepped : Ledger → Call → Bool → Ledger
+stepped ℓ call accepted = cond accepted (accepting ℓ call) ℓ
+
+-- WORKED OUT AFRESH: the confirmed map, from the start and the confirmed transactions alone
+abbrev pub confirmed_map : Ledger → List Record
+confirmed_map ℓ = done_all ℓ.start ℓ.confirmed
+
+-- the tally: the number of confirmed transactions, up to 4,294,967,295
+abbrev pub tally_of : Ledger → ℕ
+tally_of ℓ = min (length ℓ.confirmed) 4294967295
+
+-- what a call is judged by: the open extract as its rows give it, the confirmed map and the reference
+abbrev pub standing_of : Ledger → ℕ → Standing
+standing_of ℓ capacity = record { extract = progress_of ℓ.rows; map = confirmed_map ℓ; capacity = capacity; reference = ℓ.reference }
+
+-- the lines: those of a board for the confirmed map at the station and day, none without a station
+abbrev pub LinesOf : Ledger → List Line → Type 0
+LinesOf ℓ lines = LinesFor (confirmed_map ℓ) ℓ.shown lines
+
+-- tell answers the line at a place of the lines, or none past them
+pub record Tells (ℓ : Ledger) (place : ℕ) (answer : Answer) : Type 0 where
+  pub lines : List Line
+  pub are : LinesOf ℓ lines
+  pub line : answer ≡ Told (slice_get lines place)
+
+-- the answer to a call that is not refused
+abbrev pub Accepts : Ledger → Call → Answer → Type 0
+Accepts ℓ (Open row) a = a ≡ Done
+Accepts ℓ (Row row) a = a ≡ Done
+Accepts ℓ Confirm a = a ≡ Done
+Accepts ℓ Abandon a = a ≡ Done
+Accepts ℓ (Turn station day) a = a ≡ Done
+Accepts ℓ (Tell place) a = Tells ℓ place a
+Accepts ℓ Tally a = a ≡ Total (tally_of ℓ)
+
+-- the answer to a call, for a store's capacity and a board's line slots: refused as the table has it, or accepted
+abbrev pub AnswerOf : Ledger → ℕ → ℕ → Call → Answer → Type 0
+AnswerOf ℓ capacity slots call a = MatchOption (refusal_of call (standing_of ℓ capacity) slots) (Accepts ℓ call a) (λ f. a ≡ Refused f)
+
+-- whether an answer says that the call was accepted
+abbrev pub is_accepted : Answer → Bool
+is_accepted Done = true
+is_accepted (Refused f) = false
+is_accepted (Told l) = true
+is_accepted (Total n) = true
+
+-- the answer to a call that answers only that it was done
+abbrev pub answered : Result (Unit {0}) ExtractFault → Answer
+answered (Ok u) = Done
+answered (Err f) = Refused f
+
+-- whether some of the transactions are of a train
+abbrev pub names : List Change → ℕ → Bool
+names cs uid = nat_lt 0 (length (of_train uid cs))

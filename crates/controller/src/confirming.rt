@@ -1,0 +1,62 @@
+// An extract that is confirmed, and the tally.
+ghost use Rattle.std.specs.Prelude.{◌≡◌, ◌+◌, min, Bool, true, false, length, is_ok};
+ghost use Rattle.cif.specs.Refusals.{uppermost, fault_of};
+ghost use Rattle.ordered.specs.Tables.{items, room};
+ghost use Rattle.overlay.specs.Settling.{tried_all};
+ghost use Rattle.board.specs.Lines.{LinesFor};
+ghost use Rattle.extract.specs.Progress.{idle};
+ghost use Rattle.controller.specs.Calls.{Confirm as ToConfirm, refusal_of, confirm_lines};
+ghost use Rattle.controller.specs.Shown.{progress_in, standing_in};
+
+use crate::controller::Controller;
+use crate::fault::ExtractFault;
+use crate::telling::without_row;
+use board::display::Board;
+use cif::refusal::{ColumnFault, Refusal};
+use extract::extract::Extract;
+use extract::stage::Stage;
+use timetable::Store;
+
+impl<S: Store> Controller<S> {
+    // Whether the extract is complete and the board has line slots enough.
+    fn may_confirm(&mut self, board: &mut Board<'_>) -> Result<(), ColumnFault>
+        ensures told { fault_of result ≡ uppermost (confirm_lines (standing_in S.Timetable.map S.Timetable.capacity self.old) (room board.old.lines.inner)) }
+        ensures same { (self.new ≡ self.old) × (board.new ≡ board.old) }
+    {
+        if self.extract.stage() != Stage::Complete {
+            return Err(Refusal::OutOfPlace.at(0));
+        }
+        board.suits(&mut self.overlay.store)
+    }
+
+    // Does what is pending to the store, and sets the lines of the board to those of the new map for its station and day.
+    pub fn confirm(&mut self, board: &mut Board<'_>) -> Result<(), ExtractFault>
+        ensures told { fault_of result ≡ refusal_of ToConfirm (standing_in S.Timetable.map S.Timetable.capacity self.old) (room board.old.lines.inner) }
+        ensures map { is_ok result ≡ true → S.Timetable.map self.new.overlay.store ≡ tried_all (S.Timetable.capacity self.old.overlay.store) (S.Timetable.map self.old.overlay.store) (progress_in self.old).changes }
+        ensures lines { is_ok result ≡ true → LinesFor (S.Timetable.map self.new.overlay.store) board.old.shown (items board.new.lines.inner) }
+        ensures reference { is_ok result ≡ true → self.new.reference ≡ (progress_in self.old).current }
+        ensures tally { is_ok result ≡ true → self.new.tally ≡ min (self.old.tally + length (progress_in self.old).changes) 4294967295 }
+        ensures idle { is_ok result ≡ true → progress_in self.new ≡ idle }
+        ensures capacity { S.Timetable.capacity self.new.overlay.store ≡ S.Timetable.capacity self.old.overlay.store }
+        ensures board { (board.new.shown ≡ board.old.shown) × (room board.new.lines.inner ≡ room board.old.lines.inner) }
+        ensures unchanged { is_ok result ≡ false → (self.new ≡ self.old) × (board.new ≡ board.old) }
+    {
+        without_row(self.may_confirm(board))?;
+        let count = self.overlay.pending.len() as u32;
+        self.overlay.settle();
+        let _ = board.follow(&mut self.overlay.store);
+        self.reference = self.extract.current();
+        self.extract = Extract::new();
+        self.tally = self.tally.saturating_add(count);
+        Ok(())
+    }
+}
+
+impl<S> Controller<S> {
+    // How many transactions were ever confirmed, up to 4,294,967,295.
+    pub fn tally(&self) -> u32
+        ensures value { result ≡ self.now.tally }
+    {
+        self.tally
+    }
+}
