@@ -1,5 +1,5 @@
 -- The ledger: what an onlooker writes down of the calls, and what is worked out from it afresh.
-use Rattle.std.specs.Prelude.{◌≡◌, ℕ, min, Bool, true, false, cond, List, [], ◌∷◌, ◌++◌, length, Some, None, Ok, Err, Option, Result, MatchOption, nat_lt, slice_get}
+use Rattle.std.specs.Prelude.{◌≡◌, ℕ, min, Bool, true, false, cond, List, [], ◌∷◌, ◌++◌, length, Some, None, Ok, Err, Option, Result, fold, MatchOption, nat_lt, slice_get}
 use Rattle.schedule.specs.declared.record.Record.{Record}
 use Rattle.schedule.specs.declared.transaction.Change.{Change}
 use Rattle.schedule.specs.Records.{seven_blanks}
@@ -109,3 +109,11 @@ answered (Err f) = Refused f
 -- whether some of the transactions are of a train
 abbrev pub names : List Change → ℕ → Bool
 names cs uid = nat_lt 0 (length (of_train uid cs))
+
+-- a call as it is written down: with whether it was accepted
+abbrev pub Entry : Type 0
+Entry = (Call × Bool)
+
+-- the ledger after entries, in order
+abbrev pub written : Ledger → List Entry → Ledger
+written ℓ entries = fold (λ (l : Ledger) (e : Entry). stepped l e.0 e.1) ℓ entries
