@@ -47,8 +47,11 @@ module _ (s : Standing) (row : List ℕ) (p : Progress) (r : Result (Unit {0}) R
   pub opening_refused : Told p (heard_by is_no_opening s row) r → fault_of out ≡ refusal_of (Open row) s 0
   opening_refused h = carried (heard_by is_no_opening s row) h ∙ (ap (option_map (in_extract (s.extract.taken + 1))) (heard_told is_no_opening s row) ∙ mapped_both (in_extract (s.extract.taken + 1)) (told_in row) (uppermost (refusals (Open row) s 0)))
 
+  pub same_ok : is_ok out ≡ is_ok r
+  same_ok = ap is_ok e ∙ ok_raised (in_extract (s.extract.taken + 1)) r
+
   pub was_ok : is_ok out ≡ true → is_ok r ≡ true
-  was_ok h = sym (ap is_ok e ∙ ok_raised (in_extract (s.extract.taken + 1)) r) ∙ h
+  was_ok h = sym same_ok ∙ h
 
 -- nothing is pending when idle, so it fits
 pub idle_agrees : (m : List Record) (capacity : ℕ) (p : Progress) → p ≡ idle → IsMap m → length m ≤ capacity → Agrees m capacity [] p

@@ -5,3 +5,4 @@ pub mod Fitting
 pub mod Agreed
 pub mod Called
 pub mod Lawful
+pub mod Kept

@@ -1,9 +1,9 @@
 -- The calls, and the table of refusals: when each is turned away, and with what.
-use Rattle.std.specs.Prelude.{ℕ, ◌+◌, ◌*◌, Bool, true, false, not, List, [], ◌∷◌, ◌++◌, Some, None, Ok, Err, Option, Result, nat_lt}
+use Rattle.std.specs.Prelude.{ℕ, ◌+◌, Bool, true, false, not, List, [], ◌∷◌, ◌++◌, Some, None, Ok, Err, Option, Result}
 use Rattle.std.specs.Option.{option_map}
 use Rattle.cif.specs.declared.content.Content.{Content}
 use Rattle.cif.specs.declared.identity.Identity.{Identity}
-use Rattle.cif.specs.declared.refusal.Refusal.TheVariants.{OutOfPlace, TooFewSlots}
+use Rattle.cif.specs.declared.refusal.Refusal.TheVariants.{OutOfPlace}
 use Rattle.cif.specs.declared.refusal.ColumnFault.{ColumnFault}
 use Rattle.cif.specs.declared.refusal.RowFault.{RowFault}
 use Rattle.cif.specs.Refusals.{Line, line, uppermost, then, raised, in_row}

@@ -1,6 +1,6 @@
 -- A controller and its board keep to the ledger of the calls.
 use Rattle.std.specs.Prelude.{◌≡◌, ℕ, Bool, true, false, List, Option}
-use Rattle.schedule.specs.declared.transaction.Change.{Change}
+use Rattle.schedule.specs.declared.record.Record.{Record}
 use Rattle.schedule.specs.Transactions.{every_lawful}
 use Rattle.ordered.specs.Tables.{items, room}
 use Rattle.extract.specs.Progress.{transactions_of}
@@ -10,6 +10,8 @@ use Rattle.board.specs.declared.display.StationDay.{StationDay}
 use Rattle.board.specs.declared.line.Line.{Line}
 use Rattle.board.specs.Strikes.{struck}
 use Rattle.controller.specs.declared.answer.Answer.{Answer}
+use Rattle.controller.specs.declared.controller.Controller.{Controller}
+use Rattle.controller.specs.Shown.{standing_in}
 use Rattle.controller.specs.Calls.{Call, Open, Row, Confirm, Abandon, Turn, Tell, Tally}
 use Rattle.controller.specs.Agreeing.{Agrees}
 use Rattle.controller.specs.Ledger.{Ledger, stepped, confirmed_map, tally_of, LinesOf, AnswerOf, is_accepted, names}
@@ -25,6 +27,10 @@ pub record State : Type 0 where
 -- with a board
 abbrev pub state : Standing → ℕ → Board → State
 state s tally b = record { standing = s; tally = tally; shown = b.shown; lines = items b.lines.inner; slots = room b.lines.inner }
+
+-- a controller over a store that means a map and a capacity, with a board
+abbrev pub state_in : {S : Type 0} → (S → List Record) → (S → ℕ) → Controller S → Board → State
+state_in map capacity c b = state (standing_in map capacity c) c.tally b
 
 -- controller and board keep to a ledger: each part is what the ledger gives when it is worked out afresh
 pub record KeepsTo (s : State) (ℓ : Ledger) : Type 0 where

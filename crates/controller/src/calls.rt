@@ -1,10 +1,14 @@
 // The calls on a controller.
-ghost use Rattle.std.specs.Prelude.{◌≡◌, ℕ, ◌≤◌, Bool, true, false, List, [], ◌∷◌, ◌++◌, length, is_ok};
+ghost use Rattle.std.specs.Prelude.{◌≡◌, ℕ, ◌≤◌, Bool, true, false, List, [], ◌∷◌, ◌++◌, length, is_ok, None};
 ghost use Rattle.cif.specs.Refusals.{fault_of};
+ghost use Rattle.ordered.specs.Tables.{items};
 ghost use Rattle.schedule.specs.Records.{seven_blanks};
+ghost use Rattle.board.specs.declared.display.Board.{Board};
 ghost use Rattle.extract.specs.Progress.{idle, after_row};
 ghost use Rattle.controller.specs.Calls.{Open as ToOpen, Row as ToHear, Abandon as ToAbandon, refusal_of};
 ghost use Rattle.controller.specs.Agreeing.{Agrees};
+ghost use Rattle.controller.specs.Ledger.{new_ledger, answered};
+ghost use Rattle.controller.specs.Keeping.{state_in, KeepsTo, Obeys};
 ghost use Rattle.controller.specs.Shown.{progress_in, standing_in};
 
 use crate::controller::Controller;
@@ -22,6 +26,7 @@ impl<S: Store> Controller<S> {
         ensures reference { result.reference ≡ seven_blanks }
         ensures tally { result.tally ≡ 0 }
         ensures agrees { length (S.Timetable.map store) ≤ S.Timetable.capacity store → Agrees (S.Timetable.map store) (S.Timetable.capacity store) [] (progress_in result) }
+        ensures keeps { (b : Board) → b.shown ≡ None → items b.lines.inner ≡ [] → length (S.Timetable.map store) ≤ S.Timetable.capacity store → KeepsTo (state_in S.Timetable.map S.Timetable.capacity result b) (new_ledger (S.Timetable.map store)) }
     {
         Controller {
             overlay: Overlay::new(store),
@@ -41,6 +46,7 @@ impl<S: Store> Controller<S> {
         ensures tally { self.new.tally ≡ self.old.tally }
         ensures agrees { (rows : List (List ℕ)) → Agrees (S.Timetable.map self.old.overlay.store) (S.Timetable.capacity self.old.overlay.store) rows (progress_in self.old) → is_ok result ≡ true
             → Agrees (S.Timetable.map self.new.overlay.store) (S.Timetable.capacity self.new.overlay.store) (rows ++ row.now ∷ []) (progress_in self.new) }
+        ensures obeys { (b : Board) → Obeys (state_in S.Timetable.map S.Timetable.capacity self.old b) (state_in S.Timetable.map S.Timetable.capacity self.new b) (ToOpen row.now) (answered result) }
     {
         let number = self.extract.rows_taken() + 1;
         numbered(self.hear_opening(row), number)
@@ -56,6 +62,7 @@ impl<S: Store> Controller<S> {
         ensures tally { self.new.tally ≡ self.old.tally }
         ensures agrees { (rows : List (List ℕ)) → Agrees (S.Timetable.map self.old.overlay.store) (S.Timetable.capacity self.old.overlay.store) rows (progress_in self.old) → is_ok result ≡ true
             → Agrees (S.Timetable.map self.new.overlay.store) (S.Timetable.capacity self.new.overlay.store) (rows ++ row.now ∷ []) (progress_in self.new) }
+        ensures obeys { (b : Board) → Obeys (state_in S.Timetable.map S.Timetable.capacity self.old b) (state_in S.Timetable.map S.Timetable.capacity self.new b) (ToHear row.now) (answered result) }
     {
         let number = self.extract.rows_taken() + 1;
         numbered(self.hear(row), number)
@@ -71,6 +78,7 @@ impl<S: Store> Controller<S> {
         ensures tally { self.new.tally ≡ self.old.tally }
         ensures agrees { (rows : List (List ℕ)) → Agrees (S.Timetable.map self.old.overlay.store) (S.Timetable.capacity self.old.overlay.store) rows (progress_in self.old) → is_ok result ≡ true
             → Agrees (S.Timetable.map self.new.overlay.store) (S.Timetable.capacity self.new.overlay.store) [] (progress_in self.new) }
+        ensures obeys { (b : Board) → Obeys (state_in S.Timetable.map S.Timetable.capacity self.old b) (state_in S.Timetable.map S.Timetable.capacity self.new b) ToAbandon (answered result) }
     {
         without_row(self.extract.abandon())?;
         self.overlay.pending.clear();

@@ -5,8 +5,13 @@ ghost use Rattle.ordered.specs.Tables.{items, room};
 ghost use Rattle.overlay.specs.Settling.{tried_all};
 ghost use Rattle.board.specs.Lines.{LinesFor};
 ghost use Rattle.extract.specs.Progress.{idle};
-ghost use Rattle.controller.specs.Calls.{Confirm as ToConfirm, refusal_of, confirm_lines};
+ghost use Rattle.extract.specs.Judging.{Standing};
+ghost use Rattle.board.specs.declared.display.Board.{Board};
+ghost use Rattle.controller.specs.declared.answer.Answer.TheVariants.{Tally as Total};
+ghost use Rattle.controller.specs.Calls.{Confirm as ToConfirm, Tally as ToTally, refusal_of, confirm_lines};
 ghost use Rattle.controller.specs.Shown.{progress_in, standing_in};
+ghost use Rattle.controller.specs.Ledger.{answered};
+ghost use Rattle.controller.specs.Keeping.{state, state_in, Obeys};
 
 use crate::controller::Controller;
 use crate::fault::ExtractFault;
@@ -40,6 +45,7 @@ impl<S: Store> Controller<S> {
         ensures capacity { S.Timetable.capacity self.new.overlay.store ≡ S.Timetable.capacity self.old.overlay.store }
         ensures board { (board.new.shown ≡ board.old.shown) × (room board.new.lines.inner ≡ room board.old.lines.inner) }
         ensures unchanged { is_ok result ≡ false → (self.new ≡ self.old) × (board.new ≡ board.old) }
+        ensures obeys { Obeys (state_in S.Timetable.map S.Timetable.capacity self.old board.old) (state_in S.Timetable.map S.Timetable.capacity self.new board.new) ToConfirm (answered result) }
     {
         without_row(self.may_confirm(board))?;
         let count = self.overlay.pending.len() as u32;
@@ -56,6 +62,7 @@ impl<S> Controller<S> {
     // How many transactions were ever confirmed, up to 4,294,967,295.
     pub fn tally(&self) -> u32
         ensures value { result ≡ self.now.tally }
+        ensures obeys { (s : Standing) (b : Board) → Obeys (state s self.now.tally b) (state s self.now.tally b) ToTally (Total result) }
     {
         self.tally
     }

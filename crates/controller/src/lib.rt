@@ -2,6 +2,7 @@
 #![tactic(auto)]
 
 pub mod answer;
+pub mod asked;
 pub mod asking;
 pub mod calls;
 pub mod confirming;

@@ -5,6 +5,8 @@ ghost use Rattle.ordered.specs.Tables.{items, room};
 ghost use Rattle.board.specs.Lines.{BoardOf};
 ghost use Rattle.controller.specs.Calls.{Turn as ToTurn, refusal_of};
 ghost use Rattle.controller.specs.Shown.{standing_in};
+ghost use Rattle.controller.specs.Ledger.{answered};
+ghost use Rattle.controller.specs.Keeping.{state_in, Obeys};
 
 use crate::controller::Controller;
 use crate::fault::ExtractFault;
@@ -23,8 +25,10 @@ impl<S: Store> Controller<S> {
         ensures told { fault_of result ≡ refusal_of (ToTurn station.now day) (standing_in S.Timetable.map S.Timetable.capacity self.old) (room board.old.lines.inner) }
         ensures lines { is_ok result ≡ true → BoardOf (S.Timetable.map self.old.overlay.store) station.now day (items board.new.lines.inner) }
         ensures set { is_ok result ≡ true → board.new.shown ≡ Some (record { station = station.now; day = day }) }
+        ensures slots { room board.new.lines.inner ≡ room board.old.lines.inner }
         ensures unchanged { is_ok result ≡ false → board.new ≡ board.old }
         ensures same { self.new ≡ self.old }
+        ensures obeys { Obeys (state_in S.Timetable.map S.Timetable.capacity self.old board.old) (state_in S.Timetable.map S.Timetable.capacity self.new board.new) (ToTurn station.now day) (answered result) }
     {
         without_row(board.turn(&mut self.overlay.store, station, day))
     }
