@@ -10,9 +10,10 @@ use Rattle.board.specs.declared.display.StationDay.{StationDay}
 use Rattle.board.specs.declared.line.Line.{Line}
 use Rattle.board.specs.Lines.{LinesFor}
 use Rattle.board.proofs.Boards.{board_one}
+use Rattle.board.proofs.Trains.{cancelled}
 use Rattle.controller.specs.Calls.{Call, Open, Row, Confirm, Abandon, Turn, Tell, Tally}
 use Rattle.controller.specs.Ledger.{Ledger, Entry, without_rows, stepped, written, confirmed_map}
-use Rattle.runs.specs.Laws.{AbandonLeavesNoTrace, ShownIgnoresExtract, TwoOrdersOneMap, SameTrainsSameLines, NothingWithoutConfirm, reads_only, with_rows, confirms_nothing, SameConfirmed}
+use Rattle.runs.specs.Laws.{AbandonLeavesNoTrace, ShownIgnoresExtract, TwoOrdersOneMap, SameTrainsSameLines, CancelledNeverShown, NothingWithoutConfirm, reads_only, with_rows, confirms_nothing, SameConfirmed}
 
 -- an entry that only reads changes nothing but the rows
 step_reads : (ℓ : Ledger) (call : Call) (accepted : Bool) → reads_only (call, accepted) ≡ true → without_rows (stepped ℓ call accepted) ≡ without_rows ℓ
@@ -50,6 +51,11 @@ same_lines ℓ k e is p q h shown xs ys a b =
     lines_one (confirmed_map ℓ) ℓ.shown xs ys a
     (subst (λ (m : List Record). LinesFor m ℓ.shown ys) (sym (two_orders ℓ k e is p q h))
     (subst (λ (s : Option StationDay). LinesFor (confirmed_map k) s ys) (sym shown) b))
+
+pub never_shown : CancelledNeverShown
+never_shown ℓ lines s uid r a shown f c l o e =
+    let b = subst (λ (d : Option StationDay). LinesFor (confirmed_map ℓ) d lines) shown a in
+    cancelled (confirmed_map ℓ) s.station s.day uid r f c l e (b.only l o)
 
 -- a ledger that differs in nothing but the rows and what is shown
 kept : (ℓ : Ledger) (rows : List (List ℕ)) (shown : Option StationDay) → SameConfirmed ℓ (record { start = ℓ.start; rows = rows; confirmed = ℓ.confirmed; reference = ℓ.reference; shown = shown })

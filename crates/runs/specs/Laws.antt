@@ -1,11 +1,16 @@
 -- What holds of every ledger, whatever the calls that it was written from.
-use Rattle.std.specs.Prelude.{◌≡◌, ℕ, ◌+◌, min, Bool, true, false, not, ◌||◌, List, [], ◌∷◌, ◌++◌, length}
+use Rattle.std.specs.Prelude.{◌≡◌, ℕ, ◌+◌, min, Bool, true, false, not, ◌||◌, List, [], ◌∷◌, ◌++◌, length, Some}
 use Rattle.std.specs.List.{list_all}
+use Rattle.schedule.specs.declared.record.Record.{Record}
+use Rattle.schedule.specs.Records.{is_cancellation}
 use Rattle.schedule.specs.Transactions.{every_lawful}
 use Rattle.timetable.specs.Timetables.{IsMap}
 use Rattle.overlay.specs.Laws.{of_train}
 use Rattle.extract.specs.Progress.{transactions_of}
+use Rattle.running.specs.Running.{InForce}
+use Rattle.board.specs.declared.display.StationDay.{StationDay}
 use Rattle.board.specs.declared.line.Line.{Line}
+use Rattle.board.specs.Lines.{On}
 use Rattle.controller.specs.Calls.{Call, Open, Row, Confirm, Abandon, Turn, Tell, Tally}
 use Rattle.controller.specs.Ledger.{Ledger, Entry, written, with_confirmed, confirmed_map, tally_of, LinesOf}
 
@@ -51,6 +56,12 @@ SameTrainsSameLines =
     (ℓ k : Ledger) → ℓ.start ≡ k.start → IsMap ℓ.start → every_lawful ℓ.confirmed ≡ true → every_lawful k.confirmed ≡ true
     → ((uid : ℕ) → of_train uid ℓ.confirmed ≡ of_train uid k.confirmed) → ℓ.shown ≡ k.shown
     → (xs ys : List Line) → LinesOf ℓ xs → LinesOf k ys → xs ≡ ys
+
+-- a train that is cancelled on the day of the board is never shown on it
+abbrev pub CancelledNeverShown : Type 0
+CancelledNeverShown =
+    (ℓ : Ledger) (lines : List Line) (s : StationDay) (uid : ℕ) (r : Record) → LinesOf ℓ lines → ℓ.shown ≡ Some s
+    → InForce (confirmed_map ℓ) uid s.day r → is_cancellation r.key.stp ≡ true → (l : Line) → On lines l → l.key.uid ≡ uid → ⊥
 
 -- the tally grows at a confirmation by the number of its transactions, up to its most
 abbrev pub TallyCounts : Type 0

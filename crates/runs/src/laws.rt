@@ -1,5 +1,5 @@
 // Laws of the ledger.
-ghost use Rattle.runs.specs.Laws.{RefusedLeavesNoTrace, AbandonLeavesNoTrace, ShownIgnoresExtract, TwoOrdersOneMap, SameTrainsSameLines, TallyCounts, NothingWithoutConfirm};
+ghost use Rattle.runs.specs.Laws.{RefusedLeavesNoTrace, AbandonLeavesNoTrace, ShownIgnoresExtract, TwoOrdersOneMap, SameTrainsSameLines, CancelledNeverShown, TallyCounts, NothingWithoutConfirm};
 
 // A refused call leaves no trace in any later ledger.
 pub fn refused_leaves_no_trace() -> u8
@@ -32,6 +32,13 @@ pub fn two_orders_one_map() -> u8
 // Two orders of the same trains' changes give the same lines, where both boards are turned to one station and day.
 pub fn same_trains_same_lines() -> u8
     ensures { SameTrainsSameLines }
+{
+    0
+}
+
+// A train that is cancelled on the day of the board is never shown on it.
+pub fn cancelled_never_shown() -> u8
+    ensures { CancelledNeverShown }
 {
     0
 }
