@@ -5,7 +5,7 @@ use Rattle.forms.specs.declared.letters.Stp.{Stp}
 use Rattle.forms.specs.declared.letters.Stp.TheVariants.{Cancellation, ShortTerm, Overlay, Permanent}
 use Rattle.schedule.specs.declared.record.Record.{Record}
 use Rattle.schedule.specs.Records.{is_at, visits, kept_calls, few_visits, in_range, is_cancellation, is_schedule}
-use Rattle.running.specs.Running.{Candidate, InForce}
+use Rattle.running.specs.Running.{InForce}
 use Rattle.running.proofs.Forces.{one, alone, none_some}
 use Rattle.board.specs.declared.line.Line.{Line}
 use Rattle.board.specs.Lines.{no_call, line_at, IsLine, LinesOfTrainAlone, InForceHides, CancelledHides}

@@ -1,9 +1,8 @@
 -- Transactions done to a store, which may find no room.
-use Rattle.std.specs.Prelude.{◌≡◌, ℕ, ◌≤◌, Bool, true, cond, ◌||◌, List, length, take, is_some, fold, nat_lt}
+use Rattle.std.specs.Prelude.{◌≡◌, ℕ, ◌≤◌, true, cond, ◌||◌, List, length, take, is_some, fold, nat_lt}
 use Rattle.schedule.specs.declared.record.Record.{Record}
 use Rattle.schedule.specs.declared.transaction.Change.{Change}
 use Rattle.schedule.specs.declared.transaction.Change.TheVariants.{New, Revise, Delete}
-use Rattle.schedule.specs.Records.{key_of}
 use Rattle.schedule.specs.Transactions.{every_lawful}
 use Rattle.timetable.specs.Timetables.{schedule_of, with_schedule, without_key, IsMap}
 use Rattle.overlay.specs.Overlays.{done_all}

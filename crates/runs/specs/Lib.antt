@@ -1,1 +1,2 @@
+pub mod Runs
 pub mod Laws

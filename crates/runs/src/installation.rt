@@ -1,8 +1,14 @@
 // A controller with its board.
+ghost use Rattle.std.specs.Prelude.{◌≡◌, ◌≤◌, Bool, true, false, length};
+ghost use Rattle.controller.specs.Ledger.{new_ledger, is_accepted};
+ghost use Rattle.controller.specs.Keeping.{KeepsTo, Obeys};
+ghost use Rattle.runs.specs.Runs.{asked, stands};
+
 use crate::call::Call;
 use board::display::Board;
 use board::line::Line;
 use controller::answer::Answer;
+use controller::asked::tell;
 use controller::controller::Controller;
 use timetable::Store;
 
@@ -14,7 +20,11 @@ pub struct Installation<'a, S> {
 
 impl<'a, S: Store> Installation<'a, S> {
     // A new controller over a store, and a new board over line slots.
-    pub fn new(store: S, slots: &'a mut [Line]) -> Installation<'a, S> {
+    pub fn new(store: S, slots: &'a mut [Line]) -> Installation<'a, S>
+        ensures keeps { length (S.Timetable.map store) ≤ S.Timetable.capacity store → KeepsTo (stands S.Timetable.map S.Timetable.capacity result) (new_ledger (S.Timetable.map store)) }
+        ensures capacity { (stands S.Timetable.map S.Timetable.capacity result).standing.capacity ≡ S.Timetable.capacity store }
+        ensures slots { (stands S.Timetable.map S.Timetable.capacity result).slots ≡ length slots.old }
+    {
         Installation {
             controller: Controller::new(store),
             board: Board::new(slots),
@@ -22,14 +32,19 @@ impl<'a, S: Store> Installation<'a, S> {
     }
 
     // Does one call, whichever it is.
-    pub fn call(&mut self, call: &Call<'_>) -> Answer {
+    pub fn call(&mut self, call: &Call<'_>) -> Answer
+        ensures obeys { Obeys (stands S.Timetable.map S.Timetable.capacity self.old) (stands S.Timetable.map S.Timetable.capacity self.new) (asked call.now) result }
+        ensures unchanged { is_accepted result ≡ false → self.new ≡ self.old }
+    {
         match call {
             Call::Open(row) => Answer::from(self.controller.open(row)),
             Call::Row(row) => Answer::from(self.controller.row(row)),
             Call::Confirm => Answer::from(self.controller.confirm(&mut self.board)),
             Call::Abandon => Answer::from(self.controller.abandon()),
-            Call::Turn(station, day) => Answer::from(self.controller.turn(&mut self.board, station, *day)),
-            Call::Tell(place) => Answer::Told(self.board.tell(*place)),
+            Call::Turn(station, day) => {
+                Answer::from(self.controller.turn(&mut self.board, station, *day))
+            }
+            Call::Tell(place) => Answer::Told(tell(&mut self.board, *place)),
             Call::Tally => Answer::Tally(self.controller.tally()),
         }
     }

@@ -1,4 +1,6 @@
 // Runs from new installations on.
+ghost use Rattle.runs.specs.Runs.{RunOf, BothRuns};
+
 use crate::installation::Installation;
 use crate::plan::{Plan, Ran};
 use timetable::{Store, Timetable};
@@ -6,6 +8,7 @@ use timetable::{Store, Timetable};
 // Does the calls of a plan to a new controller and board. It is handed back where the store is not empty,
 // or there are not as many places for answers as calls.
 pub fn run<'a, S: Store>(mut plan: Plan<'a, S>) -> Result<Ran<'a, S>, Plan<'a, S>>
+    ensures { RunOf S.Timetable.map S.Timetable.capacity plan.entry result }
 {
     if plan.store.count() != 0 || plan.answers.len() != plan.calls.len() {
         return Err(plan);
@@ -33,6 +36,8 @@ pub fn run_both<'a, 'b, S: Store, T: Store>(
 ) -> (
     Result<Ran<'a, S>, Plan<'a, S>>,
     Result<Ran<'b, T>, Plan<'b, T>>,
-) {
+)
+    ensures { BothRuns S.Timetable.map S.Timetable.capacity T.Timetable.map T.Timetable.capacity left.entry right.entry result.0 result.1 }
+{
     (run(left), run(right))
 }

@@ -1,0 +1,90 @@
+-- Whole runs: any calls, one after another, from a new controller and board on.
+use Rattle.std.specs.Prelude.{◌≡◌, ℕ, ◌<◌, true, List, [], ◌∷◌, length, take, Some, Result, MatchResult, IfOk, slice_get}
+use Rattle.schedule.specs.declared.record.Record.{Record}
+use Rattle.extract.specs.Progress.{transactions_of}
+use Rattle.board.specs.declared.line.Line.{Line}
+use Rattle.board.specs.Strikes.{struck}
+use Rattle.overlay.specs.Laws.{of_train}
+use Rattle.controller.specs.declared.answer.Answer.{Answer}
+use Rattle.controller.specs.Calls.{Call, Open, Row, Confirm, Abandon, Turn, Tell, Tally}
+use Rattle.controller.specs.Ledger.{Ledger, new_ledger, stepped, Entry, written, LinesOf, AnswerOf, is_accepted, names}
+use Rattle.controller.specs.Keeping.{State, state_in, KeepsTo, is_confirm}
+use Rattle.runs.specs.declared.call.Call.{Call as Asked}
+use Rattle.runs.specs.declared.call.Call.TheVariants.{Open as AsksOpen, Row as AsksRow, Confirm as AsksConfirm, Abandon as AsksAbandon, Turn as AsksTurn, Tell as AsksTell, Tally as AsksTally}
+use Rattle.runs.specs.declared.installation.Installation.{Installation}
+use Rattle.runs.specs.declared.plan.Plan.{Plan}
+use Rattle.runs.specs.declared.plan.Ran.{Ran}
+
+-- a call as a value, by what it is given
+abbrev pub asked : Asked → Call
+asked (AsksOpen row) = Open row.now
+asked (AsksRow row) = Row row.now
+asked AsksConfirm = Confirm
+asked AsksAbandon = Abandon
+asked (AsksTurn station day) = Turn station.now day
+asked (AsksTell place) = Tell place
+asked AsksTally = Tally
+
+-- how an installation stands, over a store that means a map and a capacity
+abbrev pub stands : {S : Type 0} → (S → List Record) → (S → ℕ) → Installation S → State
+stands map capacity i = state_in map capacity i.controller i.board
+
+-- calls as they are written down: each with whether its answer says that it was accepted
+abbrev pub entries : List Asked → List Answer → List Entry
+entries [] answers = []
+entries (q ∷ qs) [] = []
+entries (q ∷ qs) (a ∷ rest) = (asked q, is_accepted a) ∷ entries qs rest
+
+-- the ledger of the first k calls of a run
+abbrev pub ledger_at : List Asked → List Answer → ℕ → Ledger
+ledger_at calls answers k = written (new_ledger []) (take k (entries calls answers))
+
+-- the ledger of a whole run
+abbrev pub ledger_of : List Asked → List Answer → Ledger
+ledger_of calls answers = written (new_ledger []) (entries calls answers)
+
+-- one call of a run, by the ledger of the calls before it: its answer is the ledger's, the ledger gives a board's lines before and after it,
+-- and around an accepted confirmation, with the lines of the trains that the extract names struck out, these are the same list
+pub record ByLedger (capacity slots : ℕ) (ℓ : Ledger) (call : Call) (answer : Answer) : Type 0 where
+  pub told : AnswerOf ℓ capacity slots call answer
+  pub before : List Line
+  pub shown_before : LinesOf ℓ before
+  pub after : List Line
+  pub shown_after : LinesOf (stepped ℓ call (is_accepted answer)) after
+  pub unnamed : is_confirm call ≡ true → is_accepted answer ≡ true → struck (names (transactions_of ℓ.rows)) before ≡ struck (names (transactions_of ℓ.rows)) after
+
+-- each of the first n calls
+abbrev pub FirstCalls : ℕ → ℕ → List Asked → List Answer → ℕ → Type 0
+FirstCalls capacity slots calls answers n =
+    (k : ℕ) (call : Asked) (answer : Answer) → k < n → slice_get calls k ≡ Some call → slice_get answers k ≡ Some answer
+    → ByLedger capacity slots (ledger_at calls answers k) (asked call) answer
+
+-- a run: each call goes by the ledger of the calls before it, and at the end controller and board keep to the ledger of all of them:
+-- map, tally and lines are those that it works out afresh
+pub record Runs (capacity slots : ℕ) (calls : List Asked) (answers : List Answer) (end : State) : Type 0 where
+  pub places : length answers ≡ length calls
+  pub each : FirstCalls capacity slots calls answers (length calls)
+  pub keeps : KeepsTo end (ledger_of calls answers)
+
+-- a plan can be run: its store is empty, and there is a place for the answer to each call
+pub record Suits {S : Type 0} (map : S → List Record) (p : Plan S) : Type 0 where
+  pub empty : map p.store ≡ []
+  pub places : length p.answers.now ≡ length p.calls.now
+
+-- a plan is run, or it cannot be and is handed back as it was
+abbrev pub RunOf : {S : Type 0} → (S → List Record) → (S → ℕ) → Plan S → Result (Ran S) (Plan S) → Type 0
+RunOf map capacity p r =
+    MatchResult r
+    (λ ran. Suits map p × Runs (capacity p.store) (length p.slots.now) p.calls.now ran.answers.now (stands map capacity ran.installation))
+    (λ back. (back ≡ p) × (Suits map p → ⊥))
+
+-- two runs with the same confirmed transactions for each train, and boards that were last turned to the same station and day or never: the lines are equal
+abbrev pub SameLines : Ledger → Ledger → List Line → List Line → Type 0
+SameLines ℓ k xs ys = ((uid : ℕ) → of_train uid ℓ.confirmed ≡ of_train uid k.confirmed) → ℓ.shown ≡ k.shown → xs ≡ ys
+
+-- THE WHOLE PROMISE, of two runs over stores of any two makes
+pub record BothRuns {S T : Type 0} (map_s : S → List Record) (capacity_s : S → ℕ) (map_t : T → List Record) (capacity_t : T → ℕ) (p : Plan S) (q : Plan T) (r : Result (Ran S) (Plan S)) (t : Result (Ran T) (Plan T)) : Type 0 where
+  pub left : RunOf map_s capacity_s p r
+  pub right : RunOf map_t capacity_t q t
+  pub alike : IfOk r (λ a. IfOk t (λ b. SameLines (ledger_of p.calls.now a.answers.now) (ledger_of q.calls.now b.answers.now)
+      (stands map_s capacity_s a.installation).lines (stands map_t capacity_t b.installation).lines))
