@@ -20,6 +20,7 @@ pub enum Reason {
     TooMany = 12,
     Full = 13,
     Station = 14,
+    Slots = 15,
 }
 
 impl Reason {
@@ -44,6 +45,7 @@ impl Reason {
             Reason::TooMany => "too many rows or transactions",
             Reason::Full => "the store is full",
             Reason::Station => "no such station or day",
+            Reason::Slots => "too few line slots",
         }
     }
 }
@@ -74,13 +76,6 @@ impl Refusal {
     pub const IDENTITY: Refusal = Refusal {
         reason: Reason::Identity,
         column: 1,
-        identity: None,
-    };
-
-    /// A call without a row does not fit the stage: column 0.
-    pub const CALL: Refusal = Refusal {
-        reason: Reason::Stage,
-        column: 0,
         identity: None,
     };
 
@@ -121,6 +116,18 @@ impl fmt::Display for Refusal {
 pub struct ExtractFault {
     pub refusal: Refusal,
     pub row: usize,
+}
+
+impl ExtractFault {
+    /// A call without a row is turned away: column 0, no identity, row 0.
+    pub fn of_call(reason: Reason) -> ExtractFault {
+        let refusal = Refusal {
+            reason,
+            column: 0,
+            identity: None,
+        };
+        ExtractFault { refusal, row: 0 }
+    }
 }
 
 impl fmt::Display for ExtractFault {

@@ -46,7 +46,7 @@ pub enum Change {
     Deleted,
 }
 
-#[derive(Debug, PartialEq, Eq)]
+#[derive(Clone, Debug, PartialEq, Eq)]
 pub struct Running {
     pub last: Date,
     pub days: DaysRun,
@@ -62,7 +62,7 @@ pub struct Origin {
 }
 
 /// The LI row.
-#[derive(Debug, PartialEq, Eq)]
+#[derive(Clone, Debug, PartialEq, Eq)]
 pub struct Call {
     pub place: Place,
     pub arrival: PublicTime,
@@ -79,7 +79,7 @@ pub struct Destination {
 }
 
 /// Where a train calls: columns 3 to 10 of LO, LI and LT.
-#[derive(Debug, PartialEq, Eq)]
+#[derive(Clone, Debug, PartialEq, Eq)]
 pub struct Place {
     pub tiploc: Tiploc,
     pub suffix: Suffix,

@@ -1,7 +1,7 @@
 //! Which schedule of a train is in force on a day, and the lines that a board then has.
 
 use crate::calendar::Date;
-use crate::forms::{PublicTime, StpLetter, Tiploc, Uid};
+use crate::forms::{Label, PublicTime, StpLetter, Tiploc, Uid};
 use crate::row::Call;
 use crate::stores::record::{Record, Schedule};
 use crate::words::Clock;
@@ -22,15 +22,40 @@ impl Line<'_> {
     fn order(&self) -> (u32, Uid, usize) {
         (self.minute, self.record.key.uid, self.place)
     }
+
+    /// What the line holds, apart from its schedule.
+    pub fn shown(&self) -> Shown {
+        Shown {
+            minute: self.minute,
+            uid: self.record.key.uid,
+            place: self.place,
+            platform: self.call.platform.clone(),
+            destination: self.record.destination.clone(),
+            identity: self.record.identity.clone(),
+            operator: self.record.operator.clone(),
+        }
+    }
 }
 
-impl fmt::Display for Line<'_> {
+/// What a line holds, whatever becomes of the schedule that it came from.
+#[derive(Clone, Debug, PartialEq, Eq)]
+pub struct Shown {
+    minute: u32,
+    uid: Uid,
+    place: usize,
+    platform: Label,
+    destination: String,
+    identity: Label,
+    operator: String,
+}
+
+impl fmt::Display for Shown {
     fn fmt(&self, f: &mut fmt::Formatter<'_>) -> fmt::Result {
-        let (clock, record) = (Clock(self.minute), self.record);
+        let (clock, platform, identity) = (Clock(self.minute), &self.platform.0, &self.identity.0);
         write!(
             f,
-            "{clock} {} platform {} operator {} identity {}",
-            record.destination, self.call.platform.0, record.operator, record.identity.0
+            "{clock} {} platform {platform} operator {} identity {identity}",
+            self.destination, self.operator
         )
     }
 }

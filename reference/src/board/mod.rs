@@ -1,6 +1,7 @@
 //! The departure board of a station and day, over the schedules of files.
 
 mod lines;
+pub mod turned;
 
 use crate::calendar::Date;
 use crate::forms::{Form, Tiploc};
@@ -27,7 +28,7 @@ impl Kind {
         }
     }
 
-    fn name(self) -> &'static str {
+    pub fn name(self) -> &'static str {
         match self {
             Kind::Table => "table",
             Kind::Bag => "bag",
@@ -92,7 +93,7 @@ impl Request {
         out.write_all(b", ")?;
         self.print_store(store, refused, out)?;
         for line in &lines {
-            writeln!(out, "{line}")?;
+            writeln!(out, "{}", line.shown())?;
         }
         writeln!(out, "lines {}", lines.len())
     }

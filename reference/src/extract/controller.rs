@@ -1,24 +1,28 @@
-//! The controller: it takes the rows of an extract stage by stage over a store.
+//! The controller: it takes the rows of an extract stage by stage over a store, and does what
+//! they ask for when the extract is confirmed.
 
 use super::conditions;
 use super::pending::{Overlay, Pending};
 use super::stage::Stage;
+use crate::board::turned::Board;
 use crate::fields::Fields;
-use crate::forms::LastReference;
+use crate::forms::{FileReference, LastReference};
 use crate::identity::Identity;
 use crate::refusal::{ExtractFault, Reason, Refusal};
 use crate::row::{Change, Row};
 use crate::stores::gather::Gatherer;
-use crate::stores::record::{Record, Schedule};
+use crate::stores::record::Record;
 use crate::stores::store::Store;
-use std::fmt;
+use std::{fmt, mem};
 
 /// The reference in force is seven blanks, as in a new controller.
 const NO_REFERENCE: &str = "       ";
 
-pub struct Controller<'a> {
-    store: &'a Store,
+pub struct Controller {
+    store: Store,
     in_force: LastReference,
+    /// How many transactions were ever confirmed; it stays at the largest number.
+    tally: u32,
     open: Open,
 }
 
@@ -27,19 +31,34 @@ pub struct Controller<'a> {
 struct Open {
     stage: Stage,
     rows: usize,
+    current: Option<FileReference>,
     pending: Vec<Pending>,
     gatherer: Gatherer,
     /// Whether the last BS row had `R`.
     revises: bool,
 }
 
-impl<'a> Controller<'a> {
-    pub fn new(store: &'a Store) -> Controller<'a> {
+impl Controller {
+    pub fn new(store: Store) -> Controller {
         Controller {
             store,
             in_force: LastReference(NO_REFERENCE.to_owned()),
+            tally: 0,
             open: Open::default(),
         }
+    }
+
+    pub fn store(&self) -> &Store {
+        &self.store
+    }
+
+    pub fn tally(&self) -> u32 {
+        self.tally
+    }
+
+    #[cfg(test)]
+    pub fn set_tally(&mut self, tally: u32) {
+        self.tally = tally;
     }
 
     pub fn stage(&self) -> Stage {
@@ -70,8 +89,10 @@ impl<'a> Controller<'a> {
 
     /// The store's map with the pending transactions done to it in order.
     pub fn overlay(&self) -> Overlay<'_> {
-        let keyed = |schedule: &'a Schedule| (schedule.key(), schedule);
-        let mut overlay: Overlay<'_> = self.store.schedules().map(keyed).collect();
+        let mut overlay = Overlay::new();
+        for schedule in self.store.schedules() {
+            overlay.insert(schedule.key(), schedule);
+        }
         for pending in self.pending() {
             pending.apply(&mut overlay);
         }
@@ -88,14 +109,50 @@ impl<'a> Controller<'a> {
         self.take(bytes, |identity| identity != Identity::Hd)
     }
 
+    /// Hands a row of a file on: one that begins as a header by the call open, any other by row.
+    pub fn hand(&mut self, bytes: &[u8]) -> Result<Identity, ExtractFault> {
+        if bytes.starts_with(Identity::Hd.code().as_bytes()) {
+            self.open(bytes)
+        } else {
+            self.row(bytes)
+        }
+    }
+
     /// Drops the open extract.
     pub fn abandon(&mut self) -> Result<(), ExtractFault> {
         if self.stage() == Stage::Idle {
-            let refusal = Refusal::CALL;
-            return Err(ExtractFault { refusal, row: 0 });
+            return Err(ExtractFault::of_call(Reason::Stage));
         }
         self.open = Open::default();
         Ok(())
+    }
+
+    /// Does the pending transactions to the store in order, and lets the board follow.
+    pub fn confirm(&mut self, board: &mut Board) -> Result<(), ExtractFault> {
+        if self.stage() != Stage::Complete {
+            return Err(ExtractFault::of_call(Reason::Stage));
+        }
+        if board.is_too_small(&self.store) {
+            return Err(ExtractFault::of_call(Reason::Slots));
+        }
+        let Open {
+            current, pending, ..
+        } = mem::take(&mut self.open);
+        let FileReference(current) = current.expect("an extract begins with its header");
+        self.in_force = LastReference(current);
+        for pending in pending {
+            pending.done_to(&mut self.store);
+            self.tally = self.tally.saturating_add(1);
+        }
+        board.follow(&self.store);
+        Ok(())
+    }
+
+    /// Turns a board to the station and day, from the store without what is pending.
+    pub fn turn(&self, board: &mut Board, station: &[u8], day: u32) -> Result<(), ExtractFault> {
+        board
+            .turn(&self.store, station, day)
+            .map_err(ExtractFault::of_call)
     }
 
     /// Takes a row whose identity the call is for.
@@ -138,6 +195,9 @@ impl Open {
     fn add(&mut self, row: Row) {
         self.rows += 1;
         self.stage = Stage::after(&row);
+        if let Row::Header(header) = &row {
+            self.current = Some(header.current.clone());
+        }
         if let Row::Schedule(schedule) = &row {
             self.revises = matches!(schedule.change, Change::Revised(_));
         }
@@ -147,7 +207,7 @@ impl Open {
     }
 }
 
-impl fmt::Display for Controller<'_> {
+impl fmt::Display for Controller {
     fn fmt(&self, f: &mut fmt::Formatter<'_>) -> fmt::Result {
         let (stage, rows, pending) = (self.stage(), self.rows(), self.pending().len());
         write!(f, "stage {stage}, rows {rows}, pending {pending}")

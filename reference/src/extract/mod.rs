@@ -1,7 +1,7 @@
 //! Extracts taken stage by stage over a store, told and dropped.
 
 mod conditions;
-mod controller;
+pub mod controller;
 mod pending;
 pub mod stage;
 
@@ -36,12 +36,12 @@ impl Request {
         let (store, refused) = stores::filled(self.board.slots, bases)?;
         out.write_all(b"extract ")?;
         self.board.print_store(&store, refused, out)?;
-        self.print_files(&store, names, out)
+        self.print_files(store, names, out)
     }
 
     fn print_files(
         &self,
-        store: &Store,
+        store: Store,
         names: &[OsString],
         out: &mut impl Write,
     ) -> io::Result<()> {
@@ -49,7 +49,7 @@ impl Request {
         let mut total = Tally::default();
         for name in names {
             let bytes = files::read(name)?;
-            total += self.print_file(store, &mut controller, name, &bytes, out)?;
+            total += self.print_file(&mut controller, name, &bytes, out)?;
         }
         writeln!(out, "files {}, {}", names.len(), total.told("done"))?;
         total.print_reasons(out)
@@ -58,7 +58,6 @@ impl Request {
     /// Prints what becomes of the rows of one file; at its end no extract is open.
     fn print_file(
         &self,
-        store: &Store,
         controller: &mut Controller,
         name: &OsStr,
         bytes: &[u8],
@@ -69,22 +68,17 @@ impl Request {
         for (row, number) in rows_of(bytes).zip(1..) {
             print_row(controller, row, number, &mut tally, out)?;
             if controller.stage() == Stage::Complete {
-                self.print_end(store, controller, out)?;
+                self.print_end(controller, out)?;
             }
         }
         if controller.stage() != Stage::Idle {
-            self.print_end(store, controller, out)?;
+            self.print_end(controller, out)?;
         }
         Ok(tally)
     }
 
     /// Prints the pending transactions and the board, and drops the extract.
-    fn print_end(
-        &self,
-        store: &Store,
-        controller: &mut Controller,
-        out: &mut impl Write,
-    ) -> io::Result<()> {
+    fn print_end(&self, controller: &mut Controller, out: &mut impl Write) -> io::Result<()> {
         writeln!(
             out,
             "pending {} of {TRANSACTIONS}",
@@ -93,7 +87,7 @@ impl Request {
         for pending in controller.pending() {
             writeln!(out, "{pending}")?;
         }
-        self.print_board(store, out)?;
+        self.print_board(controller.store(), out)?;
         match controller.abandon() {
             Ok(()) => writeln!(out, "abandoned: {controller}"),
             Err(fault) => writeln!(out, "{fault}"),
@@ -119,12 +113,7 @@ fn print_row(
     tally: &mut Tally,
     out: &mut impl Write,
 ) -> io::Result<()> {
-    let answer = if row.starts_with(b"HD") {
-        controller.open(row)
-    } else {
-        controller.row(row)
-    };
-    match answer {
+    match controller.hand(row) {
         Ok(identity) => {
             tally.add_taken();
             writeln!(out, "row {number}: done, {identity}, {controller}")

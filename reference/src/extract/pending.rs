@@ -2,6 +2,7 @@
 
 use crate::stores::gather::Transaction;
 use crate::stores::record::{Key, Schedule};
+use crate::stores::store::{Answer, Store};
 use std::collections::BTreeMap;
 use std::fmt;
 
@@ -41,6 +42,20 @@ impl Pending {
                 overlay.remove(key);
             }
         }
+    }
+}
+
+impl Pending {
+    /// Does the transaction to the store, which has room for it.
+    pub fn done_to(self, store: &mut Store) {
+        let answer = match self {
+            Pending::New(schedule) | Pending::Revised(schedule) => store.put(schedule),
+            Pending::Deleted(key) => store.remove(key),
+        };
+        assert!(
+            matches!(answer, Answer::Done | Answer::Yes),
+            "rows that are taken fit the store: {answer}"
+        );
     }
 }
 

@@ -42,7 +42,7 @@ impl fmt::Display for Key {
 }
 
 /// What the rows say of a train, be it lawful or not.
-#[derive(Debug)]
+#[derive(Clone, Debug)]
 pub struct Record {
     pub key: Key,
     pub last: Date,
@@ -93,7 +93,7 @@ impl Record {
 }
 
 /// A record that passed the check; nothing else makes one.
-#[derive(Debug)]
+#[derive(Clone, Debug)]
 pub struct Schedule(Record);
 
 impl Schedule {

@@ -29,17 +29,64 @@ impl fmt::Display for Answer {
     }
 }
 
+#[derive(Clone)]
 pub struct Store {
     capacity: usize,
-    map: BTreeMap<Key, Schedule>,
+    schedules: Schedules,
+}
+
+/// Schedules by their keys, or in any order.
+#[derive(Clone)]
+enum Schedules {
+    Table(BTreeMap<Key, Schedule>),
+    Bag(Vec<Schedule>),
+}
+
+impl Schedules {
+    fn has(&self, key: Key) -> bool {
+        match self {
+            Schedules::Table(map) => map.contains_key(&key),
+            Schedules::Bag(bag) => bag.iter().any(|schedule| schedule.key() == key),
+        }
+    }
+
+    /// Puts the schedule in the place of one with its key, if there is one.
+    fn set(&mut self, schedule: Schedule) {
+        match self {
+            Schedules::Table(map) => {
+                map.insert(schedule.key(), schedule);
+            }
+            Schedules::Bag(bag) => {
+                bag.retain(|other| other.key() != schedule.key());
+                bag.push(schedule);
+            }
+        }
+    }
+
+    fn remove(&mut self, key: Key) {
+        match self {
+            Schedules::Table(map) => {
+                map.remove(&key);
+            }
+            Schedules::Bag(bag) => bag.retain(|schedule| schedule.key() != key),
+        }
+    }
 }
 
 impl Store {
-    /// An empty store over so many slots.
+    /// An empty store over so many slots that keeps its schedules in key order.
     pub fn new(slots: usize) -> Store {
         Store {
             capacity: slots.min(LARGEST),
-            map: BTreeMap::new(),
+            schedules: Schedules::Table(BTreeMap::new()),
+        }
+    }
+
+    /// An empty store over so many slots that keeps its schedules in any order.
+    pub fn bag(slots: usize) -> Store {
+        Store {
+            capacity: slots.min(LARGEST),
+            schedules: Schedules::Bag(Vec::new()),
         }
     }
 
@@ -48,30 +95,37 @@ impl Store {
     }
 
     pub fn count(&self) -> usize {
-        self.map.len()
+        match &self.schedules {
+            Schedules::Table(map) => map.len(),
+            Schedules::Bag(bag) => bag.len(),
+        }
     }
 
-    /// The schedules in key order.
+    /// The schedules, in key order but for a bag's.
     pub fn schedules(&self) -> impl Iterator<Item = &Schedule> {
-        self.map.values()
+        let (table, bag) = match &self.schedules {
+            Schedules::Table(map) => (Some(map.values()), None),
+            Schedules::Bag(bag) => (None, Some(bag.iter())),
+        };
+        table.into_iter().flatten().chain(bag.into_iter().flatten())
     }
 
     /// Replaces the schedule of a key that is there, and adds one that is not while there is
     /// room.
     pub fn put(&mut self, schedule: Schedule) -> Answer {
-        let key = schedule.key();
-        if !self.map.contains_key(&key) && self.count() == self.capacity {
+        if !self.schedules.has(schedule.key()) && self.count() == self.capacity {
             return Answer::Full;
         }
-        self.map.insert(key, schedule);
+        self.schedules.set(schedule);
         Answer::Done
     }
 
     pub fn remove(&mut self, key: Key) -> Answer {
-        match self.map.remove(&key) {
-            Some(_) => Answer::Yes,
-            None => Answer::No,
+        if !self.schedules.has(key) {
+            return Answer::No;
         }
+        self.schedules.remove(key);
+        Answer::Yes
     }
 }
 
@@ -103,22 +157,25 @@ mod tests {
 
     #[test]
     fn a_full_store_refuses_a_new_key_and_takes_a_replacement() {
-        let mut store = Store::new(1);
-        assert_eq!(store.put(schedule(5, 8)), Answer::Done);
-        assert_eq!(store.put(schedule(4, 8)), Answer::Full);
-        assert_eq!(store.put(schedule(5, 9)), Answer::Done);
-        let told: Vec<String> = store.schedules().map(Schedule::to_string).collect();
-        assert!(told.len() == 1 && told[0].starts_with("A00005 P day 7 to day 9, "));
+        for mut store in [Store::new(1), Store::bag(1)] {
+            assert_eq!(store.put(schedule(5, 8)), Answer::Done);
+            assert_eq!(store.put(schedule(4, 8)), Answer::Full);
+            assert_eq!(store.put(schedule(5, 9)), Answer::Done);
+            let told: Vec<String> = store.schedules().map(Schedule::to_string).collect();
+            assert!(told.len() == 1 && told[0].starts_with("A00005 P day 7 to day 9, "));
+        }
     }
 
     #[test]
     fn a_key_is_removed_once() {
-        let mut store = Store::new(1);
-        store.put(schedule(5, 8));
-        assert_eq!(store.remove(key(4)), Answer::No);
-        assert_eq!(store.remove(key(5)), Answer::Yes);
-        assert_eq!(store.remove(key(5)), Answer::No);
-        assert_eq!(store.put(schedule(4, 8)), Answer::Done);
+        for mut store in [Store::new(1), Store::bag(1)] {
+            store.put(schedule(5, 8));
+            assert_eq!(store.remove(key(4)), Answer::No);
+            assert_eq!(store.remove(key(5)), Answer::Yes);
+            assert_eq!(store.remove(key(5)), Answer::No);
+            assert_eq!(store.put(schedule(4, 8)), Answer::Done);
+            assert_eq!(store.count(), 1);
+        }
     }
 
     #[test]

@@ -1,6 +1,7 @@
 //! What the tests share: rows, and controllers that have taken some.
 
 mod calls;
+mod confirmed;
 mod limits;
 mod printed;
 mod refusals;
@@ -32,9 +33,9 @@ fn whole(schedule: &str) -> [&str; 3] {
     [schedule, ORIGIN, END]
 }
 
-/// A controller that has taken these rows.
-fn after<'a>(store: &'a Store, rows: &[&str]) -> Controller<'a> {
-    let mut controller = Controller::new(store);
+/// A controller over such a store that has taken these rows.
+fn after(store: &Store, rows: &[&str]) -> Controller {
+    let mut controller = Controller::new(store.clone());
     for row in rows {
         hand(&mut controller, row).unwrap_or_else(|fault| panic!("{row}: {fault}"));
     }
@@ -43,12 +44,7 @@ fn after<'a>(store: &'a Store, rows: &[&str]) -> Controller<'a> {
 
 /// Hands on a row of these bytes, filled up with blanks, as the program does.
 fn hand(controller: &mut Controller, row: &str) -> Result<Identity, ExtractFault> {
-    let row = format!("{row:80}");
-    if row.starts_with("HD") {
-        controller.open(row.as_bytes())
-    } else {
-        controller.row(row.as_bytes())
-    }
+    controller.hand(format!("{row:80}").as_bytes())
 }
 
 /// The number that the row is refused with, or 0 where it is taken.

@@ -15,17 +15,10 @@ fn printed(station: &str, rows: &[&str]) -> String {
         },
         base: "-".into(),
     };
-    let store = Store::new(1);
     let rows: String = rows.iter().map(|row| format!("{row:80}\n")).collect();
-    let (mut controller, mut out) = (Controller::new(&store), Vec::new());
+    let (mut controller, mut out) = (Controller::new(Store::new(1)), Vec::new());
     request
-        .print_file(
-            &store,
-            &mut controller,
-            "a".as_ref(),
-            rows.as_bytes(),
-            &mut out,
-        )
+        .print_file(&mut controller, "a".as_ref(), rows.as_bytes(), &mut out)
         .unwrap();
     String::from_utf8(out).unwrap()
 }

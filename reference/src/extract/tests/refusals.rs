@@ -10,11 +10,7 @@ fn told(slots: usize, rows: &[&str], row: &[u8]) -> String {
     let store = Store::new(slots);
     let mut controller = after(&store, rows);
     let kept = (controller.to_string(), format!("{:?}", controller.begun()));
-    let fault = if row.starts_with(b"HD") {
-        controller.open(row).unwrap_err()
-    } else {
-        controller.row(row).unwrap_err()
-    };
+    let fault = controller.hand(row).unwrap_err();
     let keeps = (controller.to_string(), format!("{:?}", controller.begun()));
     assert_eq!(kept, keeps);
     let text = fault.to_string();

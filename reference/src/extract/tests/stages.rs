@@ -76,7 +76,7 @@ fn rows_by_the_other_call() {
     let store = Store::new(5);
     let told =
         "refused 4, column 1, identity \"HD\", row 1: the row or call does not fit the stage";
-    let fault = Controller::new(&store).row(format!("{HEADER:80}").as_bytes());
+    let fault = Controller::new(store.clone()).row(format!("{HEADER:80}").as_bytes());
     assert_eq!(fault.unwrap_err().to_string(), told);
     let told =
         "refused 4, column 1, identity \"TI\", row 2: the row or call does not fit the stage";
