@@ -1,4 +1,4 @@
-//! How rows fared: how many were taken, and how many were refused for which reason.
+//! How rows or calls fared: how many were taken, and how many were refused for which reason.
 
 use crate::refusal::Reason;
 use std::collections::BTreeMap;
@@ -23,9 +23,14 @@ impl Tally {
     /// How many rows there were, how many were taken, which the report calls `taken`, and how
     /// many were refused.
     pub fn told(&self, taken: &str) -> String {
+        self.told_of("rows", taken)
+    }
+
+    /// The same of what is called `all`.
+    pub fn told_of(&self, all: &str, taken: &str) -> String {
         let refused: usize = self.refused.values().sum();
-        let rows = self.taken + refused;
-        format!("rows {rows}: {taken} {}, refused {refused}", self.taken)
+        let count = self.taken + refused;
+        format!("{all} {count}: {taken} {}, refused {refused}", self.taken)
     }
 
     /// Prints a line for each reason that was told.

@@ -1,9 +1,10 @@
 //! The departure board of a station and day, over the schedules of files.
 
-mod lines;
+pub mod lines;
 pub mod turned;
 
 use crate::calendar::Date;
+use crate::extract::controller::Controller;
 use crate::forms::{Form, Tiploc};
 use crate::refusal::Reason;
 use crate::stores::store::Store;
@@ -11,6 +12,7 @@ use crate::stores::{self, Refused};
 use lines::Line;
 use std::ffi::{OsStr, OsString};
 use std::io::{self, Write};
+use turned::Board;
 
 /// Which store the board is over. One map stands here for both.
 #[derive(Clone, Copy, Debug, PartialEq, Eq)]
@@ -75,6 +77,14 @@ impl Request {
     pub fn lines<'a>(&self, store: &'a Store) -> Result<Vec<Line<'a>>, Reason> {
         let (station, day) = self.place()?;
         Ok(lines::lines(store.schedules(), &station, day))
+    }
+
+    /// Turns a board of this controller to the station and day, where there are such.
+    pub fn turn(&self, controller: &Controller, board: &mut Board) -> Result<(), Reason> {
+        let (station, day) = self.place()?;
+        controller
+            .turn(board, station.0.as_bytes(), day.number())
+            .map_err(|fault| fault.refusal.reason)
     }
 
     /// The station and day, where there are such.

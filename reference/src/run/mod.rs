@@ -1,0 +1,170 @@
+//! The extracts of files taken in order, each confirmed at its end.
+
+use crate::board;
+use crate::board::turned::Board;
+use crate::extract::controller::Controller;
+use crate::extract::stage::Stage;
+use crate::files::{self, rows_of};
+use crate::stores::store::Store;
+use crate::tally::Tally;
+use std::ffi::{OsStr, OsString};
+use std::io::{self, Write};
+
+/// How many slots the store has where the command line does not say.
+pub const SLOTS: usize = 2_000;
+
+/// Prints what becomes of the rows of these files over an empty store, and the board that is
+/// asked for.
+pub fn print(request: &board::Request, names: &[OsString], out: &mut impl Write) -> io::Result<()> {
+    let mut run = Run::new(request);
+    run.print_head(out)?;
+    let mut total = Tally::default();
+    for name in names {
+        let bytes = files::read(name)?;
+        total += run.print_file(name, &bytes, out)?;
+    }
+    run.print_board(out)?;
+    writeln!(out, "files {}, {}", names.len(), total.told("done"))?;
+    total.print_reasons(out)
+}
+
+struct Run<'a> {
+    request: &'a board::Request,
+    controller: Controller,
+    board: Board,
+    /// How many rows were refused since the extract was opened.
+    refused: usize,
+}
+
+impl Run<'_> {
+    fn new(request: &board::Request) -> Run<'_> {
+        let store = match request.kind {
+            board::Kind::Table => Store::new(request.slots),
+            board::Kind::Bag => Store::bag(request.slots),
+        };
+        Run {
+            request,
+            board: Board::new(2 * store.capacity()),
+            controller: Controller::new(store),
+            refused: 0,
+        }
+    }
+
+    /// Turns the board, and prints what it is then.
+    fn print_head(&mut self, out: &mut impl Write) -> io::Result<()> {
+        let (name, capacity) = (self.request.kind.name(), self.controller.capacity());
+        let slots = self.board.slots();
+        writeln!(
+            out,
+            "run store {name}: capacity {capacity}, line slots {slots}"
+        )?;
+        match self.request.turn(&self.controller, &mut self.board) {
+            Ok(()) => self.print_count(out),
+            Err(reason) => writeln!(out, "board {reason}"),
+        }
+    }
+
+    /// Prints what becomes of the rows of one file; at its end no extract is open.
+    fn print_file(
+        &mut self,
+        name: &OsStr,
+        bytes: &[u8],
+        out: &mut impl Write,
+    ) -> io::Result<Tally> {
+        files::print_name(name, out)?;
+        let mut tally = Tally::default();
+        for (row, number) in rows_of(bytes).zip(1..) {
+            self.print_row(row, number, &mut tally, out)?;
+        }
+        if self.controller.stage() != Stage::Idle {
+            self.print_abandoned("end of file", out)?;
+        }
+        Ok(tally)
+    }
+
+    /// Hands the row on, and prints what becomes of it if it is refused or ends an extract.
+    fn print_row(
+        &mut self,
+        row: &[u8],
+        number: usize,
+        tally: &mut Tally,
+        out: &mut impl Write,
+    ) -> io::Result<()> {
+        let begins = self.controller.stage() == Stage::Idle;
+        match self.controller.hand(row) {
+            Ok(_) => {
+                tally.add_taken();
+                if begins {
+                    self.refused = 0;
+                }
+                if self.controller.stage() == Stage::Complete {
+                    self.print_end(&format!("row {number}"), out)?;
+                }
+                Ok(())
+            }
+            Err(fault) => {
+                tally.add_refused(fault.refusal.reason);
+                self.refused += 1;
+                writeln!(out, "row {number}: {fault}")
+            }
+        }
+    }
+
+    /// Confirms the extract, or drops it where a row of it was refused.
+    fn print_end(&mut self, place: &str, out: &mut impl Write) -> io::Result<()> {
+        if self.refused > 0 {
+            return self.print_abandoned(place, out);
+        }
+        let (rows, transactions) = (self.controller.rows(), self.controller.pending().len());
+        match self.controller.confirm(&mut self.board) {
+            Ok(()) => {
+                let tally = self.controller.tally();
+                writeln!(
+                    out,
+                    "{place}: confirmed, rows {rows}, transactions {transactions}, tally {tally}"
+                )?;
+                self.print_count(out)
+            }
+            Err(fault) => writeln!(out, "{place}: {fault}"),
+        }
+    }
+
+    fn print_abandoned(&mut self, place: &str, out: &mut impl Write) -> io::Result<()> {
+        let (rows, transactions) = (self.controller.rows(), self.controller.pending().len());
+        let refused = self.refused;
+        match self.controller.abandon() {
+            Ok(()) => writeln!(
+                out,
+                "{place}: abandoned, rows {rows}, transactions {transactions}, \
+                 rows refused {refused}"
+            ),
+            Err(fault) => writeln!(out, "{place}: {fault}"),
+        }
+    }
+
+    /// Prints which board it is, and no line end.
+    fn print_name(&self, out: &mut impl Write) -> io::Result<()> {
+        if self.board.has_station() {
+            self.request.print_name(out)
+        } else {
+            write!(out, "{}", self.board)
+        }
+    }
+
+    fn print_count(&self, out: &mut impl Write) -> io::Result<()> {
+        self.print_name(out)?;
+        writeln!(out, ": lines {}", self.board.lines().len())
+    }
+
+    fn print_board(&self, out: &mut impl Write) -> io::Result<()> {
+        self.print_name(out)?;
+        writeln!(out)?;
+        for line in self.board.lines() {
+            writeln!(out, "{line}")?;
+        }
+        writeln!(out, "lines {}", self.board.lines().len())
+    }
+}
+
+#[cfg(test)]
+mod tests;
