@@ -6,6 +6,7 @@ use std::str::FromStr;
 
 pub const USAGE: &str = "\
 usage: reference run [--store STORE] [--capacity CAPACITY] STATION DATE FILE...
+       reference replay SCRIPT...
        reference rows FILE...
        reference stores CAPACITY FILE...
        reference board STORE CAPACITY STATION DATE FILE...
@@ -20,6 +21,7 @@ const MOST_SLOTS: usize = 65_536;
 
 pub enum Command {
     Run(board::Request, Vec<OsString>),
+    Replay(Vec<OsString>),
     Rows(Vec<OsString>),
     Stores { slots: usize, names: Vec<OsString> },
     Board(board::Request, Vec<OsString>),
@@ -41,6 +43,7 @@ fn command(arguments: &[OsString]) -> Option<Command> {
     let (name, rest) = arguments.split_first()?;
     match (name.to_str()?, rest) {
         ("run", rest) => run(rest),
+        ("replay", [_, ..]) => Some(Command::Replay(rest.to_vec())),
         ("rows", [_, ..]) => Some(Command::Rows(rest.to_vec())),
         ("stores", [slots, names @ ..]) if !names.is_empty() => Some(Command::Stores {
             slots: slots_of(slots)?,

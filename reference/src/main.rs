@@ -12,6 +12,7 @@ mod forms;
 mod generate;
 mod identity;
 mod refusal;
+mod replay;
 mod report;
 mod row;
 mod run;
@@ -34,6 +35,7 @@ impl Command {
     fn print(self, out: &mut impl Write) -> io::Result<()> {
         match self {
             Command::Run(request, names) => run::print(&request, &names, out),
+            Command::Replay(names) => replay::print(&names, out),
             Command::Rows(names) => report::print(&names, out),
             Command::Stores { slots, names } => stores::print(slots, &names, out),
             Command::Board(request, names) => request.print(&names, out),
