@@ -14,7 +14,8 @@ usage: reference run [--store STORE] [--capacity CAPACITY] STATION DATE FILE...
        reference extract STORE CAPACITY STATION DATE BASE FILE...
        reference generate SEED COUNT
        reference generate-schedules SEED COUNT
-       reference generate-extracts SEED COUNT";
+       reference generate-extracts SEED COUNT
+       reference generate-histories SEED COUNT";
 
 /// The most slots that the command line can ask for.
 const MOST_SLOTS: usize = 65_536;

@@ -1,8 +1,9 @@
-//! Pseudo-random rows, schedules and extracts to try a reader on: most are lawful, some have a
+//! Pseudo-random rows, schedules, extracts and histories of calls: most are lawful, some have a
 //! planted fault.
 
 mod extracts;
 mod faulty;
+mod histories;
 mod lawful;
 mod schedules;
 mod spec;
@@ -20,6 +21,8 @@ pub enum Kind {
     Schedules,
     /// Extracts one after another.
     Extracts,
+    /// A script of histories of calls.
+    Histories,
 }
 
 impl Kind {
@@ -29,6 +32,7 @@ impl Kind {
             "generate" => Some(Kind::Rows),
             "generate-schedules" => Some(Kind::Schedules),
             "generate-extracts" => Some(Kind::Extracts),
+            "generate-histories" => Some(Kind::Histories),
             _ => None,
         }
     }
@@ -42,7 +46,7 @@ pub struct Sample {
 }
 
 impl Sample {
-    /// Prints the rows, each ended by a line feed.
+    /// Prints the rows, or the lines of the script, each ended by a line feed.
     pub fn print(&self, out: &mut impl Write) -> io::Result<()> {
         for row in self.rows() {
             out.write_all(&row)?;
@@ -57,6 +61,7 @@ impl Sample {
             Kind::Rows => (0..self.count).map(|_| row(random)).collect(),
             Kind::Schedules => schedules::extract(random, self.count),
             Kind::Extracts => extracts::extracts(random, self.count),
+            Kind::Histories => histories::script(random, self.count),
         }
     }
 }

@@ -1,7 +1,7 @@
 //! Scripts of calls, done to a controller over a table and to one over a bag.
 
 pub mod script;
-mod side;
+pub mod side;
 
 use crate::files;
 use crate::stores::store::Store;
@@ -33,7 +33,7 @@ fn no_call(name: &OsStr, line: usize) -> io::Error {
     io::Error::new(io::ErrorKind::InvalidData, told)
 }
 
-fn print_histories(histories: &[History], out: &mut impl Write) -> io::Result<()> {
+pub fn print_histories(histories: &[History], out: &mut impl Write) -> io::Result<()> {
     let mut total = Tally::default();
     for (history, number) in histories.iter().zip(1..) {
         write!(out, "history {number}: ")?;

@@ -40,7 +40,7 @@ impl fmt::Display for Answer {
 
 /// A controller, and the board that is given to its calls.
 pub struct Side {
-    controller: Controller,
+    pub controller: Controller,
     pub board: Board,
 }
 
@@ -61,7 +61,7 @@ impl Side {
         calls.iter().map(|call| self.answer(call)).collect()
     }
 
-    fn answer(&mut self, call: &Call) -> Answer {
+    pub fn answer(&mut self, call: &Call) -> Answer {
         let Side { controller, board } = self;
         match call {
             Call::Open(row) => Answer::of(controller.open(row)),

@@ -34,6 +34,20 @@ impl Call {
     }
 }
 
+impl Call {
+    /// The line of a script that asks for this call.
+    pub fn line(&self) -> Vec<u8> {
+        let word = self.word();
+        let line = match self {
+            Call::Open(row) | Call::Row(row) => format!("{word} {}", escaped(row)),
+            Call::Turn { day, station } => format!("{word} {day} {}", escaped(station)),
+            Call::Tell(place) => format!("{word} {place}"),
+            Call::Confirm | Call::Abandon | Call::Tally => word.to_owned(),
+        };
+        line.into_bytes()
+    }
+}
+
 /// What two new controllers are given.
 #[derive(Clone, Debug, PartialEq, Eq)]
 pub struct History {
@@ -167,8 +181,7 @@ fn digit(byte: u8) -> Option<u8> {
 
 /// These bytes as a script writes them: a line feed, a backslash and what is not printable by
 /// their digits.
-#[cfg(test)]
-pub fn escaped(bytes: &[u8]) -> String {
+fn escaped(bytes: &[u8]) -> String {
     bytes
         .iter()
         .map(|&byte| match byte {
@@ -179,104 +192,4 @@ pub fn escaped(bytes: &[u8]) -> String {
 }
 
 #[cfg(test)]
-mod tests {
-    use super::*;
-
-    fn calls(script: &[u8]) -> Vec<Call> {
-        read(script).unwrap().remove(0).calls
-    }
-
-    #[test]
-    fn every_call() {
-        let script = b"# \xff\n\nnew 1 2\nopen HD \nrow\nrow \nrow \\0a\\5C\\fFx\xff\nconfirm\n\
-            abandon\nturn 4294967295 HALTA  \nturn 0\nturn 007 \ntell 18446744073709551615\ntally";
-        let turn = |day, station: &[u8]| Call::Turn {
-            day,
-            station: station.to_vec(),
-        };
-        let expected = [
-            Call::Open(b"HD ".to_vec()),
-            Call::Row(vec![]),
-            Call::Row(vec![]),
-            Call::Row(b"\n\\\xffx\xff".to_vec()),
-            Call::Confirm,
-            Call::Abandon,
-            turn(u32::MAX, b"HALTA  "),
-            turn(0, b""),
-            turn(7, b""),
-            Call::Tell(u64::MAX),
-            Call::Tally,
-        ];
-        assert_eq!(calls(script), expected);
-    }
-
-    #[test]
-    fn histories() {
-        let script = b"new 65536 131072\ntally\nother\nabandon\nnew 0 0\nother\n";
-        let expected = [
-            History {
-                slots: 65_536,
-                line_slots: 131_072,
-                calls: vec![Call::Tally],
-                other: Some(vec![Call::Abandon]),
-            },
-            History {
-                slots: 0,
-                line_slots: 0,
-                calls: vec![],
-                other: Some(vec![]),
-            },
-        ];
-        assert_eq!(read(script).unwrap(), expected);
-        assert_eq!(read(b"").unwrap(), []);
-    }
-
-    #[test]
-    fn lines_that_are_none() {
-        for line in [
-            "tell",
-            "tell ",
-            "tell +1",
-            "tell 1 ",
-            "tell -1",
-            "tell 18446744073709551616",
-            "turn",
-            "turn ",
-            "turn x HALTA  ",
-            "turn 4294967296 HALTA  ",
-            "turn  1 HALTA  ",
-            "confirm ",
-            "abandon x",
-            "tally\r",
-            "other ",
-            "new",
-            "new 1",
-            "new 1 ",
-            "new 1 2 ",
-            "new 65537 0",
-            "new 0 131073",
-            "new  1 2",
-            " tally",
-            "Tally",
-            "row \\",
-            "row \\0",
-            "row \\0g",
-            "row\t",
-            "open\\20",
-            "history",
-        ] {
-            assert_eq!(read(format!("new 1 2\n{line}\ntally\n").as_bytes()), Err(2));
-        }
-        assert_eq!(read(b"\ntally\nnew 1 2\n"), Err(2));
-        assert_eq!(read(b"other\nnew 1 2\n"), Err(1));
-        assert_eq!(read(b"new 1 2\nother\ntally\nother\n"), Err(4));
-    }
-
-    #[test]
-    fn what_is_escaped_comes_back() {
-        let bytes: Vec<u8> = (0..=255).collect();
-        let script = format!("new 0 0\nrow {}\n", escaped(&bytes));
-        assert!(script.is_ascii());
-        assert_eq!(calls(script.as_bytes()), [Call::Row(bytes)]);
-    }
-}
+mod tests;
