@@ -1,7 +1,12 @@
 // What can be asked of a controller.
 ghost use Rattle.std.specs.Prelude.{◌≡◌, ◌<◌, ◌≤◌, cond, length, MatchOption, slice_index_or};
 ghost use Rattle.schedule.specs.declared.transaction.Change.{Change};
+ghost use Rattle.extract.specs.Judging.{Standing};
+ghost use Rattle.board.specs.declared.display.Board.{Board};
+ghost use Rattle.controller.specs.declared.answer.Answer.TheVariants.{Tally as Total};
+ghost use Rattle.controller.specs.Calls.{Tally as ToTally};
 ghost use Rattle.controller.specs.Shown.{progress_in};
+ghost use Rattle.controller.specs.Keeping.{state, Obeys};
 
 use crate::controller::Controller;
 use extract::stage::Stage;
@@ -33,5 +38,13 @@ impl<S> Controller<S> {
         ensures { MatchOption result (length (progress_in self.now).changes ≤ place) (λ t. (place < length (progress_in self.now).changes) × ((d : Change) → t ≡ slice_index_or (progress_in self.now).changes place d)) }
     {
         self.overlay.pending.as_slice().get(place).copied()
+    }
+
+    // How many transactions were ever confirmed, up to 4,294,967,295.
+    pub fn tally(&self) -> u32
+        ensures value { result ≡ self.now.tally }
+        ensures obeys { (s : Standing) (b : Board) → Obeys (state s self.now.tally b) (state s self.now.tally b) ToTally (Total result) }
+    {
+        self.tally
     }
 }

@@ -1,17 +1,14 @@
-// An extract that is confirmed, and the tally.
+// An extract that is confirmed.
 ghost use Rattle.std.specs.Prelude.{◌≡◌, ◌+◌, min, Bool, true, false, length, is_ok};
 ghost use Rattle.cif.specs.Refusals.{uppermost, fault_of};
 ghost use Rattle.ordered.specs.Tables.{items, room};
 ghost use Rattle.overlay.specs.Settling.{tried_all};
 ghost use Rattle.board.specs.Lines.{LinesFor};
 ghost use Rattle.extract.specs.Progress.{idle};
-ghost use Rattle.extract.specs.Judging.{Standing};
-ghost use Rattle.board.specs.declared.display.Board.{Board};
-ghost use Rattle.controller.specs.declared.answer.Answer.TheVariants.{Tally as Total};
-ghost use Rattle.controller.specs.Calls.{Confirm as ToConfirm, Tally as ToTally, refusal_of, confirm_lines};
+ghost use Rattle.controller.specs.Calls.{Confirm as ToConfirm, refusal_of, confirm_lines};
 ghost use Rattle.controller.specs.Shown.{progress_in, standing_in};
 ghost use Rattle.controller.specs.Ledger.{answered};
-ghost use Rattle.controller.specs.Keeping.{state, state_in, Obeys};
+ghost use Rattle.controller.specs.Keeping.{state_in, Obeys};
 
 use crate::controller::Controller;
 use crate::fault::ExtractFault;
@@ -55,15 +52,5 @@ impl<S: Store> Controller<S> {
         self.extract = Extract::new();
         self.tally = self.tally.saturating_add(count);
         Ok(())
-    }
-}
-
-impl<S> Controller<S> {
-    // How many transactions were ever confirmed, up to 4,294,967,295.
-    pub fn tally(&self) -> u32
-        ensures value { result ≡ self.now.tally }
-        ensures obeys { (s : Standing) (b : Board) → Obeys (state s self.now.tally b) (state s self.now.tally b) ToTally (Total result) }
-    {
-        self.tally
     }
 }
