@@ -1,25 +1,19 @@
 -- The laws, from the definitions.
 use Rattle.std.proofs.Common.{◌≡◌, ◌≤◌, Bool, true, false, cond, List, [], ◌∷◌, ◌++◌, length, take, Some, None, Option, sym, refl, ap, subst, append-nil, arith, MatchOption}
-use Rattle.std.proofs.Math.Nat.{max-eq_left}
-use Rattle.std.proofs.Math.Seq.{take-length}
 use Rattle.std.proofs.lemmas.List.{take_more_set}
 use Rattle.cif.specs.declared.refusal.ColumnFault.{ColumnFault}
 use Rattle.cif.specs.Refusals.{Line, uppermost}
-use Rattle.schedule.specs.declared.transaction.Change.{Change}
 use Rattle.schedule.specs.Records.{kept_calls}
 use Rattle.schedule.specs.Building.{is_kept, adds_call, with_call}
 use Rattle.overlay.specs.Overlays.{done_all}
 use Rattle.extract.specs.Progress.{Progress}
-use Rattle.controller.specs.Laws.{OverlayIsOfRows, PendingFits, OverlayKeepsRoom, none_holds, IsUppermost, UppermostIsTold, CallsInRowOrder}
+use Rattle.controller.specs.Laws.{OverlayIsOfRows, PendingFits, none_holds, IsUppermost, UppermostIsTold, CallsInRowOrder}
 
 pub of_rows : OverlayIsOfRows
 of_rows m capacity rows p a = ap (λ q. done_all m q.changes) a.progress
 
 pub fitting : PendingFits
 fitting m capacity rows p a k = subst (λ (q : Progress). length (done_all m (take k q.changes)) ≤ capacity) a.progress (a.fits.pending k)
-
-pub keeps_room : OverlayKeepsRoom
-keeps_room m capacity rows p a = max-eq_left (subst (λ (cs : List Change). length (done_all m cs) ≤ capacity) (take-length p.changes) (a.fits.pending (length p.changes)))
 
 pub told_uppermost : UppermostIsTold
 told_uppermost [] = refl

@@ -8,7 +8,7 @@ use Rattle.cif.specs.Refusals.{Line, uppermost}
 use Rattle.schedule.specs.declared.record.Record.{Record}
 use Rattle.schedule.specs.Records.{kept_calls, is_cancellation}
 use Rattle.schedule.specs.Building.{is_kept, with_call}
-use Rattle.overlay.specs.Overlays.{done_all, room_with}
+use Rattle.overlay.specs.Overlays.{done_all}
 use Rattle.extract.specs.declared.stage.Stage.{Stage}
 use Rattle.extract.specs.Stages.{next_stage, is_reading}
 use Rattle.extract.specs.Progress.{Progress, transactions_of}
@@ -21,10 +21,6 @@ OverlayIsOfRows = (m : List Record) (capacity : ℕ) (rows : List (List ℕ)) (p
 -- the transactions of the rows fit the store when they are done in order: after none of them are there more keys than the capacity
 abbrev pub PendingFits : Type 0
 PendingFits = (m : List Record) (capacity : ℕ) (rows : List (List ℕ)) (p : Progress) → Agrees m capacity rows p → (k : ℕ) → length (done_all m (take k (transactions_of rows))) ≤ capacity
-
--- so an overlay with what a controller has pending may have just as many keys as its store
-abbrev pub OverlayKeepsRoom : Type 0
-OverlayKeepsRoom = (m : List Record) (capacity : ℕ) (rows : List (List ℕ)) (p : Progress) → Agrees m capacity rows p → room_with m capacity p.changes ≡ capacity
 
 -- no line of a table holds
 abbrev pub none_holds : List Line → Bool

@@ -1,5 +1,5 @@
 // Laws of extracts and of the table of refusals.
-ghost use Rattle.controller.specs.Laws.{OverlayIsOfRows, PendingFits, OverlayKeepsRoom, UppermostIsTold, ReadFromBsToLt, CallsInRowOrder};
+ghost use Rattle.controller.specs.Laws.{OverlayIsOfRows, PendingFits, UppermostIsTold, ReadFromBsToLt, CallsInRowOrder};
 
 // The overlay's map is the store's with the transactions of the rows done in order, whatever the store.
 pub fn overlay_is_of_rows() -> u8
@@ -11,13 +11,6 @@ pub fn overlay_is_of_rows() -> u8
 // What the pending transactions add always fits the store when they are done in order.
 pub fn pending_fits() -> u8
     ensures { PendingFits }
-{
-    0
-}
-
-// An overlay with what a controller has pending may have just as many keys as its store.
-pub fn overlay_keeps_room() -> u8
-    ensures { OverlayKeepsRoom }
 {
     0
 }

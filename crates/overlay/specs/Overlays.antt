@@ -1,5 +1,5 @@
 -- The overlay: a map with pending transactions done to it in order.
-use Rattle.std.specs.Prelude.{ℕ, Bool, cond, max, List, [], ◌∷◌, length, take, Some, None, fold, Option}
+use Rattle.std.specs.Prelude.{Bool, cond, List, [], ◌∷◌, take, Some, None, fold, Option}
 use Rattle.maps.specs.Orders.{same}
 use Rattle.schedule.specs.declared.key.Key.{Key}
 use Rattle.schedule.specs.declared.record.Record.{Record}
@@ -46,11 +46,3 @@ last_from k o (c ∷ cs) = last_from k (cond (is_on k c) (Some c) o) cs
 
 abbrev pub last_on : Key → List Change → Option Change
 last_on k cs = last_from k None cs
-
--- how many keys a map of a capacity may have with transactions done to it: as many as before, or as it has, where those are more
-abbrev pub room_with : List Record → ℕ → List Change → ℕ
-room_with m capacity cs = max capacity (length (done_all m cs))
-
--- how many keys an overlay may have
-abbrev pub room_over : {S : Type 0} → (S → List Record) → (S → ℕ) → Overlay S → ℕ
-room_over map capacity o = room_with (map o.store) (capacity o.store) (pending_in o.pending)

@@ -1,5 +1,5 @@
 // The overlay as a timetable.
-ghost use Rattle.overlay.specs.Overlays.{overlay_of, room_over, pending_in};
+ghost use Rattle.overlay.specs.Overlays.{overlay_of, pending_in};
 ghost use Rattle.overlay.specs.Maps.{all_map};
 
 use crate::least::{first_untouched, least_set};
@@ -12,7 +12,7 @@ use timetable::{Store, Timetable};
 impl<S: Store> Timetable for Overlay<S> {
     ghost map = { λ o. overlay_of S.Timetable.map o };
 
-    ghost capacity = { λ o. room_over S.Timetable.map S.Timetable.capacity o };
+    ghost capacity = { λ o. S.Timetable.capacity o.store };
 
     ghost is_map = { λ o. all_map (S.Timetable.map o.store) (pending_in o.pending) (S.Timetable.is_map o.store) o.pending.lawful };
 

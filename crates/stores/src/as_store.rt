@@ -19,7 +19,11 @@ impl<T: Mapped<Record>> Timetable for Kept<T> {
 
     ghost is_map = { λ s. record { rising = T.Mapped.rises s.rows; schedules = s.valid } };
 
-    fn count(&mut self) -> usize {
+    fn count(&mut self) -> usize
+        ensures value { result ≡ length (T.Mapped.map self.old.rows) }
+        ensures fits { length (T.Mapped.map self.old.rows) ≤ room (T.Mapped.slots self.old.rows) }
+        ensures same { self.new ≡ self.old }
+    {
         self.rows.len()
     }
 

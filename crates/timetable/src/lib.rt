@@ -21,7 +21,6 @@ pub trait Timetable {
     // How many keys the map has.
     fn count(&mut self) -> usize
         ensures value { result ≡ length (map self.old) }
-        ensures fits { length (map self.old) ≤ capacity self.old }
         ensures same { self.new ≡ self.old };
 
     // Whether a key is there. Its schedule is copied to `place`, which is left as it was where the key is absent.
