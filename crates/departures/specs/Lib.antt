@@ -5,3 +5,4 @@ pub mod Handing
 pub mod Keeping
 pub mod Words
 pub mod Blanks
+pub mod Scripts

@@ -4,9 +4,9 @@ ghost use Rattle.ordered.specs.Tables.{items};
 ghost use Rattle.departures.specs.Stations.{filled_up};
 ghost use Rattle.departures.specs.Blanks.{blank_line};
 
+use crate::answers::LineWords;
 use crate::drafts::{Asked, Draft};
 use crate::tasks::Wanted;
-use crate::words::Text;
 use board::display::Board;
 use board::line::{Line, LineKey};
 use cif::reading::read;
@@ -91,19 +91,6 @@ pub fn print_refused(rt: &HostRuntime, before: &str, refusal: Refusal) -> anyhow
     Ok(())
 }
 
-fn print_line(rt: &HostRuntime, line: &Line) -> anyhow::Result<()> {
-    let hours = line.key.minute / 60;
-    let minutes = line.key.minute % 60;
-    let destination = Text(&line.destination);
-    let platform = Text(&line.platform);
-    let operator = Text(&line.operator);
-    let train = Text(&line.train);
-    println!(rt;
-        "{hours:02}:{minutes:02} {destination} platform {platform} operator {operator} identity {train}"
-    )?;
-    Ok(())
-}
-
 // How many lines a board shows, of so many at the most.
 pub fn shown_lines(shown: &mut Board, most: usize) -> u64
     ensures value { result ≡ min most (length (items shown.old.lines.inner)) }
@@ -112,11 +99,18 @@ pub fn shown_lines(shown: &mut Board, most: usize) -> u64
     most.min(shown.len()) as u64
 }
 
-// Prints the lines of a board in order, and how many there are.
-fn print_lines(rt: &HostRuntime, shown: &mut Board, most: usize) -> anyhow::Result<()> {
+// Prints the lines of a board in order.
+pub fn print_each(rt: &HostRuntime, shown: &mut Board, most: usize) -> anyhow::Result<()> {
     for line in (0..most).map_while(|place| shown.tell(place)) {
-        print_line(rt, &line)?;
+        let words = LineWords(&line);
+        println!(rt; "{words}")?;
     }
+    Ok(())
+}
+
+// Prints the lines of a board in order, and how many there are.
+pub fn print_lines(rt: &HostRuntime, shown: &mut Board, most: usize) -> anyhow::Result<()> {
+    print_each(rt, shown, most)?;
     let lines = shown_lines(shown, most);
     println!(rt; "lines {lines}")?;
     Ok(())

@@ -6,10 +6,11 @@ ghost use Rattle.controller.specs.Shown.{progress_in, standing_in};
 ghost use Rattle.extract.specs.Progress.{idle};
 ghost use Rattle.departures.specs.Handing.{handed};
 
+use crate::answers::RefusedWords;
 use crate::boards::{filled, line_slots, print_refused, shown_lines};
 use crate::rows::Tally;
 use crate::tasks::{StoreKind, Wanted};
-use crate::words::{ChangeWords, FaultWords, Text, stage_name};
+use crate::words::{ChangeWords, Text, stage_name};
 use board::display::Board;
 use board::line::Line;
 use cif::refusal::Refusal;
@@ -22,7 +23,7 @@ use std::fs;
 use timetable::{Store, Timetable};
 
 // Hands a row to the controller: an HD row by open, any other by row.
-fn hand<S: Store>(controller: &mut Controller<S>, row: &[u8]) -> Result<(), ExtractFault>
+pub fn hand<S: Store>(controller: &mut Controller<S>, row: &[u8]) -> Result<(), ExtractFault>
     ensures told { fault_of result ≡ refusal_of (handed row.now) (standing_in S.Timetable.map S.Timetable.capacity controller.old) 0 }
     ensures unchanged { is_ok result ≡ false → controller.new ≡ controller.old }
     ensures store { controller.new.overlay.store ≡ controller.old.overlay.store }
@@ -33,11 +34,10 @@ fn hand<S: Store>(controller: &mut Controller<S>, row: &[u8]) -> Result<(), Extr
     }
 }
 
-fn print_fault(rt: &HostRuntime, number: usize, fault: &ExtractFault) -> anyhow::Result<()> {
-    let words = FaultWords(&fault.fault);
-    let place = fault.row;
-    let refusal = fault.fault.fault.refusal;
-    println!(rt; "row {number}: {words}, row {place}: {refusal}")?;
+// Prints why a row of a file was turned away.
+pub fn print_fault(rt: &HostRuntime, number: usize, fault: &ExtractFault) -> anyhow::Result<()> {
+    let words = RefusedWords(fault);
+    println!(rt; "row {number}: {words}")?;
     Ok(())
 }
 

@@ -6,15 +6,20 @@ use stores::bag::Bag;
 use stores::table::Table;
 use timetable::Store;
 
+mod answers;
 mod boards;
 mod drafts;
 mod extracts;
+mod follow;
 mod keeping;
+mod replay;
 mod rows;
+mod scripts;
 mod tasks;
 mod words;
 
 use extracts::Extracts;
+use follow::Followed;
 use keeping::Both;
 use tasks::{StoreKind, Task, Wanted, Work};
 
@@ -74,6 +79,7 @@ fn run_work<S: Store + Drop>(
             boards::print_turns(rt, &mut store, lines.as_mut_slice(), wanted, times)
         }
         Work::Extracts(base, files) => run_extracts(rt, store, wanted, base, files),
+        Work::Run(files) => run_followed(rt, store, wanted, files),
     }
 }
 
@@ -97,9 +103,35 @@ fn run_extracts<S: Store + Drop>(
     rows::print_outcome(rt, files.len() as u64, "done", &extracts.tally)
 }
 
+// Takes the extracts of the files over a store, confirms those without a refused row, and prints the board at the end.
+fn run_followed<S: Store + Drop>(
+    rt: &HostRuntime,
+    mut store: S,
+    wanted: Wanted,
+    files: &[String],
+) -> anyhow::Result<()> {
+    let mut lines = boards::line_slots(rt, &mut store)?;
+    follow::print_head(rt, &mut store, wanted.store, lines.len())?;
+    let mut followed = Followed::new(store, lines.as_mut_slice(), wanted);
+    followed.turn(rt)?;
+    for name in files {
+        followed.take_file(rt, name.as_str())?;
+    }
+    followed.print_board(rt)?;
+    rows::print_outcome(rt, files.len() as u64, "done", &followed.tally)
+}
+
+fn run_scripts(rt: &HostRuntime, files: &[String]) -> anyhow::Result<()> {
+    for name in files {
+        replay::print_script(rt, name.as_str())?;
+    }
+    Ok(())
+}
+
 fn run_task(rt: &HostRuntime, words: &[String]) -> anyhow::Result<()> {
     match Task::try_from(words)? {
         Task::Rows(files) => run_rows(rt, files),
+        Task::Replay(files) => run_scripts(rt, files),
         Task::Stores(slots, files) => run_stores(rt, slots, files),
         Task::OverStore(wanted, work) => run_over_store(rt, wanted, work),
     }

@@ -7,6 +7,7 @@ use crate::words::{FaultWords, Words};
 use cif::content::Content;
 use cif::reading::read;
 use cif::refusal::{Refusal, RowFault};
+use controller::answer::Answer;
 use files::Rows;
 use std::fs;
 
@@ -70,6 +71,14 @@ impl Tally {
         match outcome {
             Ok(_) => self.note_done(),
             Err(fault) => self.note_refused(fault.fault.refusal),
+        }
+    }
+
+    // Counts a call by its answer.
+    pub fn note_answer(&mut self, answer: &Answer) {
+        match answer {
+            Answer::Refused(fault) => self.note_refused(fault.fault.fault.refusal),
+            _ => self.note_done(),
         }
     }
 
@@ -159,6 +168,20 @@ pub fn print_outcome(
     let done = total.done;
     let refused = total.all_refused();
     println!(rt; "files {files}, rows {rows}: {verb} {done}, refused {refused}")?;
+    print_refusals(rt, total)
+}
+
+// Prints what came of the calls of all histories, and each number that was told.
+pub fn print_calls(rt: &HostRuntime, histories: u64, total: &Tally) -> anyhow::Result<()> {
+    let calls = total.rows();
+    let done = total.done;
+    let refused = total.all_refused();
+    println!(rt; "histories {histories}, calls {calls}: done {done}, refused {refused}")?;
+    print_refusals(rt, total)
+}
+
+// Prints each number that was told, with how many times.
+fn print_refusals(rt: &HostRuntime, total: &Tally) -> anyhow::Result<()> {
     for refusal in REFUSALS {
         let number = refusal.number();
         let count = total.times(refusal);

@@ -9,10 +9,13 @@ use std::fmt::{Display, Formatter};
 use std::str::FromStr;
 
 const USAGE: &str =
-    "usage: departures rows FILE... | departures stores CAPACITY FILE... | departures board STORE CAPACITY STATION DATE FILE... | departures extract STORE CAPACITY STATION DATE BASE FILE...";
+    "usage: departures run [--store STORE] [--capacity CAPACITY] STATION DATE FILE... | departures replay SCRIPT... | departures rows FILE... | departures stores CAPACITY FILE... | departures board STORE CAPACITY STATION DATE FILE... | departures extract STORE CAPACITY STATION DATE BASE FILE...";
 
 // How many slots may be asked for.
 const MOST_SLOTS: usize = 65_536;
+
+// How many slots a store has where none are asked for.
+const USUAL_SLOTS: usize = 2_000;
 
 // Which of the two stores schedules are put into.
 #[derive(Clone, Copy)]
@@ -74,6 +77,55 @@ impl<'a> Wanted<'a> {
             _ => Err(anyhow!(USAGE)),
         }
     }
+
+    // What options and the first two words behind them ask for, and the words after them, of which there is one at least.
+    fn from_options(words: &'a [String]) -> anyhow::Result<(Wanted<'a>, &'a [String])> {
+        let (options, rest) = Options::from_words(words)?;
+        match rest {
+            [station, date, files @ ..] if !files.is_empty() => {
+                let wanted = Wanted {
+                    store: options.store.unwrap_or(StoreKind::Table),
+                    slots: options.slots.unwrap_or(USUAL_SLOTS),
+                    station: station.as_str(),
+                    date: date.as_str(),
+                };
+                Ok((wanted, files))
+            }
+            _ => Err(anyhow!(USAGE)),
+        }
+    }
+}
+
+// The options before the other words.
+#[derive(Clone, Copy)]
+struct Options {
+    store: Option<StoreKind>,
+    slots: Option<usize>,
+}
+
+impl Options {
+    // The options that words begin with, each at most once, and the words after them.
+    fn from_words(words: &[String]) -> anyhow::Result<(Options, &[String])> {
+        let mut options = Options {
+            store: None,
+            slots: None,
+        };
+        let mut rest = words;
+        while let [option, value, others @ ..] = rest {
+            match option.as_str() {
+                "--store" if options.store.is_none() => {
+                    options.store = Some(value.as_str().parse::<StoreKind>()?);
+                }
+                "--capacity" if options.slots.is_none() => {
+                    options.slots = Some(slots_in(value.as_str())?);
+                }
+                "--store" | "--capacity" => return Err(anyhow!(USAGE)),
+                _ => break,
+            }
+            rest = others;
+        }
+        Ok((options, rest))
+    }
 }
 
 // The number of slots that is asked for, if there may be so many.
@@ -93,12 +145,14 @@ pub enum Work<'a> {
     Board(&'a [String]),
     Turns(u64, &'a [String]),
     Extracts(Option<&'a str>, &'a [String]),
+    Run(&'a [String]),
 }
 
 // A task with the names of its files.
 #[derive(Clone, Copy)]
 pub enum Task<'a> {
     Rows(&'a [String]),
+    Replay(&'a [String]),
     Stores(usize, &'a [String]),
     OverStore(Wanted<'a>, Work<'a>),
 }
@@ -113,6 +167,11 @@ impl<'a> TryFrom<&'a [String]> for Task<'a> {
         };
         match (command.as_str(), rest) {
             ("rows", [_, ..]) => Ok(Task::Rows(rest)),
+            ("replay", [_, ..]) => Ok(Task::Replay(rest)),
+            ("run", _) => {
+                let (wanted, files) = Wanted::from_options(rest)?;
+                Ok(Task::OverStore(wanted, Work::Run(files)))
+            }
             ("stores", [capacity, files @ ..]) if !files.is_empty() => {
                 Ok(Task::Stores(slots_in(capacity.as_str())?, files))
             }

@@ -1,0 +1,61 @@
+// What calls answer, in plain words.
+use crate::words::{FaultWords, Text};
+use board::line::Line;
+use controller::answer::Answer;
+use controller::fault::ExtractFault;
+use std::fmt;
+use std::fmt::{Display, Formatter};
+
+// Why a call was turned away, with the number of the row.
+#[derive(Clone, Copy)]
+pub struct RefusedWords<'a>(pub &'a ExtractFault);
+
+impl Display for RefusedWords<'_> {
+    fn fmt<W: fmt::Write>(&self, f: &mut Formatter<W>) -> fmt::Result {
+        let words = FaultWords(&self.0.fault);
+        let place = self.0.row;
+        let refusal = self.0.fault.fault.refusal;
+        write!(f, "{words}, row {place}: {refusal}")
+    }
+}
+
+// A line of a board.
+#[derive(Clone, Copy)]
+pub struct LineWords<'a>(pub &'a Line);
+
+impl Display for LineWords<'_> {
+    fn fmt<W: fmt::Write>(&self, f: &mut Formatter<W>) -> fmt::Result {
+        let hours = self.0.key.minute / 60;
+        let minutes = self.0.key.minute % 60;
+        let destination = Text(&self.0.destination);
+        let platform = Text(&self.0.platform);
+        let operator = Text(&self.0.operator);
+        let train = Text(&self.0.train);
+        write!(
+            f,
+            "{hours:02}:{minutes:02} {destination} platform {platform} operator {operator} identity {train}"
+        )
+    }
+}
+
+// The answer to a call.
+#[derive(Clone, Copy)]
+pub struct AnswerWords<'a>(pub &'a Answer);
+
+impl Display for AnswerWords<'_> {
+    fn fmt<W: fmt::Write>(&self, f: &mut Formatter<W>) -> fmt::Result {
+        match self.0 {
+            Answer::Done => f.write_str("done"),
+            Answer::Refused(fault) => {
+                let words = RefusedWords(fault);
+                write!(f, "{words}")
+            }
+            Answer::Told(Some(line)) => {
+                let words = LineWords(line);
+                write!(f, "{words}")
+            }
+            Answer::Told(None) => f.write_str("none"),
+            Answer::Tally(tally) => write!(f, "{tally}"),
+        }
+    }
+}

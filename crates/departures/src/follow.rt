@@ -1,0 +1,178 @@
+// Extracts that are followed: each is confirmed at its end, or abandoned where a row of it was refused.
+use crate::boards::{filled, print_lines, print_refused, shown_lines};
+use crate::extracts::{hand, print_fault};
+use crate::rows::Tally;
+use crate::tasks::{StoreKind, Wanted};
+use board::display::Board;
+use board::line::Line;
+use cif::refusal::Refusal;
+use controller::controller::Controller;
+use extract::stage::Stage;
+use files::Rows;
+use std::fs;
+use timetable::Store;
+
+// A controller with the board that follows it, and what came of the rows. Of the open extract it is kept how many rows were refused.
+#[derive(Drop)]
+pub struct Followed<'a, 'b, S> {
+    controller: Controller<S>,
+    board: Board<'b>,
+    most: usize,
+    wanted: Wanted<'a>,
+    has_station: bool,
+    refused: u64,
+    pub tally: Tally,
+}
+
+// What came of an extract.
+#[derive(Clone, Copy)]
+enum Outcome {
+    Confirmed,
+    Abandoned(u64),
+}
+
+impl<'a, 'b, S: Store + Drop> Followed<'a, 'b, S> {
+    // No extract is open, and the board has no station.
+    pub fn new(store: S, lines: &'b mut [Line], wanted: Wanted<'a>) -> Followed<'a, 'b, S> {
+        let most = lines.len();
+        Followed {
+            controller: Controller::new(store),
+            board: Board::new(lines),
+            most,
+            wanted,
+            has_station: false,
+            refused: 0,
+            tally: Tally::new(),
+        }
+    }
+
+    // Turns the board to what is wanted.
+    fn turned(&mut self, rt: &HostRuntime) -> anyhow::Result<Result<(), Refusal>> {
+        let wanted = self.wanted;
+        let Some(day) = wanted.day() else {
+            return Ok(Err(Refusal::NoSuchBoard));
+        };
+        let station = filled(rt, wanted.station)?;
+        match self
+            .controller
+            .turn(&mut self.board, station.as_slice(), day)
+        {
+            Ok(()) => {
+                self.has_station = true;
+                Ok(Ok(()))
+            }
+            Err(fault) => Ok(Err(fault.fault.fault.refusal)),
+        }
+    }
+
+    // Turns the board to what is wanted, and prints how many lines it has or why it cannot be turned.
+    pub fn turn(&mut self, rt: &HostRuntime) -> anyhow::Result<()> {
+        match self.turned(rt)? {
+            Ok(()) => self.print_count(rt),
+            Err(refusal) => print_refused(rt, "board ", refusal),
+        }
+    }
+
+    // Prints the station and date of the board, if it has them.
+    fn print_shown(&self, rt: &HostRuntime) -> anyhow::Result<()> {
+        if self.has_station {
+            let Wanted { station, date, .. } = self.wanted;
+            print!(rt; "board {station} {date}")?;
+        } else {
+            print!(rt; "board without a station")?;
+        }
+        Ok(())
+    }
+
+    // Prints how many lines the board has.
+    fn print_count(&mut self, rt: &HostRuntime) -> anyhow::Result<()> {
+        self.print_shown(rt)?;
+        let lines = shown_lines(&mut self.board, self.most);
+        println!(rt; ": lines {lines}")?;
+        Ok(())
+    }
+
+    // Prints the board.
+    pub fn print_board(&mut self, rt: &HostRuntime) -> anyhow::Result<()> {
+        self.print_shown(rt)?;
+        println!(rt; "")?;
+        print_lines(rt, &mut self.board, self.most)
+    }
+
+    // Confirms the open extract, or drops it where a row of it was refused or it is not complete.
+    fn end(&mut self) -> Outcome {
+        let refused = self.refused;
+        self.refused = 0;
+        if refused == 0 && self.controller.confirm(&mut self.board).is_ok() {
+            return Outcome::Confirmed;
+        }
+        let _ = self.controller.abandon();
+        Outcome::Abandoned(refused)
+    }
+
+    // Ends the open extract, and prints what came of it, after the words for where it ended.
+    fn end_extract(&mut self, rt: &HostRuntime) -> anyhow::Result<()> {
+        let rows = self.controller.rows_taken();
+        let pending = self.controller.pending_count();
+        match self.end() {
+            Outcome::Confirmed => {
+                let tally = self.controller.tally();
+                println!(rt; "confirmed, rows {rows}, transactions {pending}, tally {tally}")?;
+                self.print_count(rt)
+            }
+            Outcome::Abandoned(refused) => {
+                println!(rt;
+                    "abandoned, rows {rows}, transactions {pending}, rows refused {refused}"
+                )?;
+                Ok(())
+            }
+        }
+    }
+
+    // Hands a row over, counts it, and prints why it was refused if it was.
+    fn take_row(&mut self, rt: &HostRuntime, number: usize, row: &[u8]) -> anyhow::Result<()> {
+        let is_open = self.controller.stage() != Stage::Idle;
+        match hand(&mut self.controller, row) {
+            Ok(()) => self.tally.note_done(),
+            Err(fault) => {
+                self.tally.note_refused(fault.fault.fault.refusal);
+                if is_open {
+                    self.refused = self.refused.saturating_add(1);
+                }
+                print_fault(rt, number, &fault)?;
+            }
+        }
+        Ok(())
+    }
+
+    // Hands the rows of a file over, and ends each extract where it is complete or the file ends.
+    pub fn take_file(&mut self, rt: &HostRuntime, name: &str) -> anyhow::Result<()> {
+        let bytes = fs::read(rt, name)?;
+        println!(rt; "file {name}")?;
+        for (place, row) in Rows::new(bytes.as_slice()).enumerate() {
+            let number = place + 1;
+            self.take_row(rt, number, row)?;
+            if self.controller.stage() == Stage::Complete {
+                print!(rt; "row {number}: ")?;
+                self.end_extract(rt)?;
+            }
+        }
+        if self.controller.stage() != Stage::Idle {
+            print!(rt; "end of file: ")?;
+            self.end_extract(rt)?;
+        }
+        Ok(())
+    }
+}
+
+// Prints the store, and how many line slots its board has.
+pub fn print_head<S: Store>(
+    rt: &HostRuntime,
+    store: &mut S,
+    kind: StoreKind,
+    slots: usize,
+) -> anyhow::Result<()> {
+    let capacity = store.capacity();
+    println!(rt; "run store {kind}: capacity {capacity}, line slots {slots}")?;
+    Ok(())
+}
