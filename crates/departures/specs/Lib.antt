@@ -6,3 +6,4 @@ pub mod Keeping
 pub mod Words
 pub mod Blanks
 pub mod Scripts
+pub mod Following

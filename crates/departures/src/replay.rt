@@ -1,4 +1,7 @@
 // Scripts of calls, done to controllers over both stores.
+ghost use Rattle.std.specs.Prelude.{◌≡◌, ℕ, ◌<◌, ◌↔◌, IsTrue, slice_get};
+ghost use Rattle.ordered.specs.Tables.{items};
+
 use crate::answers::AnswerWords;
 use crate::boards::{empty_line, print_each, shown_lines};
 use crate::keeping::empty_record;
@@ -101,7 +104,10 @@ fn print_end<S: Store>(
 }
 
 // Whether two boards show the same lines, of so many at the most.
-fn is_same(left: &mut Board, right: &mut Board, most: usize) -> bool {
+fn is_same(left: &mut Board, right: &mut Board, most: usize) -> bool
+    ensures value { IsTrue result ↔ ((k : ℕ) → k < most → slice_get (items left.old.lines.inner) k ≡ slice_get (items right.old.lines.inner) k) }
+    ensures same { (left.new ≡ left.old) × (right.new ≡ right.old) }
+{
     for place in 0..most {
         if left.tell(place) != right.tell(place) {
             return false;

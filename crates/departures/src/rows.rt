@@ -1,7 +1,7 @@
 // Rows one by one: what each holds, or why it is turned away.
-ghost use Rattle.std.specs.Prelude.{◌≡◌, ℕ, ◌+◌, ◌<◌, ◌≢◌, min, slice_index, fold, true, is_ok, IfErr};
+ghost use Rattle.std.specs.Prelude.{◌≡◌, ℕ, ◌+◌, ◌<◌, ◌≢◌, min, slice_index, fold, true, is_ok, IfErr, IfSome};
 ghost use Rattle.cif.specs.Refusals.{number_of};
-ghost use Rattle.departures.specs.Tallies.{counted};
+ghost use Rattle.departures.specs.Tallies.{counted, refusal_told};
 
 use crate::words::{FaultWords, Words};
 use cif::content::Content;
@@ -75,7 +75,11 @@ impl Tally {
     }
 
     // Counts a call by its answer.
-    pub fn note_answer(&mut self, answer: &Answer) {
+    pub fn note_answer(&mut self, answer: &Answer)
+        ensures done { refusal_told answer.now ≡ None → self.new ≡ record self.old { done = counted (self.old.done + 1) } }
+        ensures refused { IfSome (refusal_told answer.now) (λ r. slice_index self.new.refused (number_of r) ≡ counted (slice_index self.old.refused (number_of r) + 1)) }
+        ensures others { IfSome (refusal_told answer.now) (λ r. (self.new.done ≡ self.old.done) × ((k : ℕ) → k ≢ number_of r → slice_index self.new.refused k ≡ slice_index self.old.refused k)) }
+    {
         match answer {
             Answer::Refused(fault) => self.note_refused(fault.fault.fault.refusal),
             _ => self.note_done(),
