@@ -1,6 +1,6 @@
 // Scripts of calls.
-ghost use Rattle.std.specs.Prelude.{◌≡◌, ◌<◌, ◌≤◌, length, option_map, IfSome};
-ghost use Rattle.departures.specs.Scripts.{hex_value, first_meant};
+ghost use Rattle.std.specs.Prelude.{◌≡◌, ◌<◌, ◌≤◌, ◌∷◌, ◌++◌, length, option_map, Contains, IfOk, IfSome, MatchOption};
+ghost use Rattle.departures.specs.Scripts.{hex_value, first_meant, meant, number_up_to};
 
 use anyhow::anyhow;
 use files::Rows;
@@ -114,7 +114,9 @@ fn first_meant(text: &[u8]) -> Option<(u8, &[u8])>
 }
 
 // The bytes that a text stands for, or none where a `\` has no two hexadecimal digits behind it.
-fn meant(alloc: Global, text: &[u8]) -> Result<Option<Vec<u8>>, AllocError> {
+fn meant(alloc: Global, text: &[u8]) -> Result<Option<Vec<u8>>, AllocError>
+    ensures { IfOk result (λ bytes. option_map (λ v. v.items) bytes ≡ meant text.now) }
+{
     let mut bytes = Vec::new(alloc);
     let mut rest = text;
     while !rest.is_empty() {
@@ -129,25 +131,30 @@ fn meant(alloc: Global, text: &[u8]) -> Result<Option<Vec<u8>>, AllocError> {
 
 // The number that digits write, one at least and nothing else, if it is not above a limit.
 fn number_up_to(most: u64, digits: &[u8]) -> Option<u64>
+    ensures value { result ≡ number_up_to most digits.now }
     ensures within { IfSome result (λ number. number ≤ most) }
 {
     if digits.is_empty() {
         return None;
     }
-    let mut number: u64 = 0;
+    let mut number: u128 = 0;
     for digit in digits {
         if !digit.is_ascii_digit() {
             return None;
         }
-        number = number
-            .checked_mul(10)?
-            .checked_add(u64::from(*digit - b'0'))?;
+        number = number * 10 + u128::from(*digit - b'0');
+        if number > u128::from(most) {
+            return None;
+        }
     }
-    Some(number).filter(|number| *number <= most)
+    Some(number as u64)
 }
 
 // What stands before the first blank, and what stands behind it where there is one.
-fn split_blank(line: &[u8]) -> (&[u8], Option<&[u8]>) {
+fn split_blank(line: &[u8]) -> (&[u8], Option<&[u8]>)
+    ensures whole { MatchOption result.1 (result.0.now ≡ line.now) (λ rest. line.now ≡ result.0.now ++ 32 ∷ rest.now) }
+    ensures first { ¬ (Contains result.0.now 32) }
+{
     match line.iter().position(|b| *b == b' ') {
         Some(n) => (&line[..n], Some(&line[n + 1..])),
         None => (line, None),
