@@ -99,17 +99,24 @@ pub fn shown_lines(shown: &mut Board, most: usize) -> u64
     most.min(shown.len()) as u64
 }
 
-// Prints the lines of a board in order.
-pub fn print_each(rt: &HostRuntime, shown: &mut Board, most: usize) -> anyhow::Result<()> {
-    for line in (0..most).map_while(|place| shown.tell(place)) {
+// Prints the lines of a board in order, of so many at the most. The board stays as it was.
+pub fn print_each(rt: &HostRuntime, shown: &mut Board, most: usize) -> anyhow::Result<()>
+    ensures { shown.new ≡ shown.old }
+{
+    for place in 0..most {
+        let Some(line) = shown.tell(place) else {
+            break;
+        };
         let words = LineWords(&line);
         println!(rt; "{words}")?;
     }
     Ok(())
 }
 
-// Prints the lines of a board in order, and how many there are.
-pub fn print_lines(rt: &HostRuntime, shown: &mut Board, most: usize) -> anyhow::Result<()> {
+// Prints the lines of a board in order, and how many there are. The board stays as it was.
+pub fn print_lines(rt: &HostRuntime, shown: &mut Board, most: usize) -> anyhow::Result<()>
+    ensures { shown.new ≡ shown.old }
+{
     print_each(rt, shown, most)?;
     let lines = shown_lines(shown, most);
     println!(rt; "lines {lines}")?;

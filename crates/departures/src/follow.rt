@@ -1,5 +1,5 @@
 // Extracts that are followed: each is confirmed at its end, or abandoned where a row of it was refused.
-ghost use Rattle.std.specs.Prelude.{◌≡◌, ◌+◌, ◌*◌, ◌<◌, ◌≤◌, ◌||◌, false, true, cond, is_ok, IfOk};
+ghost use Rattle.std.specs.Prelude.{◌≡◌, ◌+◌, ◌*◌, ◌<◌, ◌≤◌, ◌||◌, false, true, cond, length, is_ok, IfOk};
 ghost use Rattle.ordered.specs.Tables.{room};
 ghost use Rattle.extract.specs.Progress.{idle};
 ghost use Rattle.extract.specs.Stages.{is_stage};
@@ -47,6 +47,7 @@ impl<'a, 'b, S: Store + Drop> Followed<'a, 'b, S> {
     pub fn new(store: S, lines: &'b mut [Line], wanted: Wanted<'a>) -> Followed<'a, 'b, S>
         ensures store { result.controller.overlay.store ≡ store }
         ensures idle { progress_in result.controller ≡ idle }
+        ensures slots { room result.board.lines.inner ≡ length lines.old }
         ensures follows { Follows S.Timetable.map result }
     {
         let most = lines.len();
@@ -117,7 +118,9 @@ impl<'a, 'b, S: Store + Drop> Followed<'a, 'b, S> {
     }
 
     // Prints the board.
-    pub fn print_board(&mut self, rt: &HostRuntime) -> anyhow::Result<()> {
+    pub fn print_board(&mut self, rt: &HostRuntime) -> anyhow::Result<()>
+        ensures { self.new ≡ self.old }
+    {
         self.print_shown(rt)?;
         println!(rt; "")?;
         print_lines(rt, &mut self.board, self.most)
@@ -196,7 +199,8 @@ impl<'a, 'b, S: Store + Drop> Followed<'a, 'b, S> {
 
     // Hands the rows of a file over, and ends each extract where it is complete or the file ends.
     pub fn take_file(&mut self, rt: &HostRuntime, name: &str) -> anyhow::Result<()>
-        ensures { Follows S.Timetable.map self.old → Follows S.Timetable.map self.new }
+        ensures follows { Follows S.Timetable.map self.old → Follows S.Timetable.map self.new }
+        ensures idle { is_ok result ≡ true → is_stage (progress_in self.new.controller).stage Idle ≡ true }
     {
         let bytes = fs::read(rt, name)?;
         println!(rt; "file {name}")?;

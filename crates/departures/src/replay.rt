@@ -1,5 +1,5 @@
 // Scripts of calls, done to controllers over both stores.
-ghost use Rattle.std.specs.Prelude.{◌≡◌, ℕ, ◌<◌, ◌↔◌, IsTrue, slice_get};
+ghost use Rattle.std.specs.Prelude.{◌≡◌, ℕ, ◌<◌, ◌↔◌, IsTrue, IfOk, length, slice_get};
 ghost use Rattle.ordered.specs.Tables.{items};
 
 use crate::answers::AnswerWords;
@@ -30,7 +30,11 @@ struct Side<'a> {
 }
 
 impl<'a> Side<'a> {
-    fn new(rt: &HostRuntime, history: &History, steps: &'a [Step]) -> Result<Side<'a>, AllocError> {
+    fn new(rt: &HostRuntime, history: &History, steps: &'a [Step]) -> Result<Side<'a>, AllocError>
+        ensures lines { IfOk result (λ side. length side.lines.items ≡ history.now.slots) }
+        ensures calls { IfOk result (λ side. length side.calls.items ≡ length steps.now) }
+        ensures answers { IfOk result (λ side. length side.answers.items ≡ length steps.now) }
+    {
         let mut calls = Vec::new(rt.alloc());
         for step in steps {
             calls.push(step.call())?;

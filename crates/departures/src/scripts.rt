@@ -1,5 +1,5 @@
 // Scripts of calls.
-ghost use Rattle.std.specs.Prelude.{◌≡◌, ◌<◌, ◌≤◌, ◌∷◌, ◌++◌, length, option_map, Contains, IfOk, IfSome, MatchOption};
+ghost use Rattle.std.specs.Prelude.{◌≡◌, ◌<◌, ◌≤◌, true, false, [], ◌∷◌, ◌++◌, length, is_ok, None, option_map, Contains, IfOk, IfSome, MatchOption};
 ghost use Rattle.departures.specs.Scripts.{hex_value, first_meant, meant, number_up_to};
 
 use anyhow::anyhow;
@@ -63,14 +63,21 @@ pub struct History {
 
 impl History {
     // The calls to the bag's controller.
-    pub fn others(&self) -> &[Step] {
+    pub fn others(&self) -> &[Step]
+        ensures { MatchOption self.now.other (result.now ≡ self.now.calls.items) (λ other. result.now ≡ other.items) }
+    {
         match &self.other {
             Some(other) => other.as_slice(),
             None => self.calls.as_slice(),
         }
     }
 
-    fn push(&mut self, step: Step) -> Result<(), AllocError> {
+    // Adds a call, to those of the bag's controller where it has its own.
+    fn push(&mut self, step: Step) -> Result<(), AllocError>
+        ensures calls { is_ok result ≡ true → MatchOption self.old.other (self.new.calls.items ≡ self.old.calls.items ++ step ∷ []) (λ other. self.new.calls ≡ self.old.calls) }
+        ensures other { is_ok result ≡ true → MatchOption self.old.other (self.new.other ≡ None) (λ other. IfSome self.new.other (λ more. more.items ≡ other.items ++ step ∷ [])) }
+        ensures slots { (self.new.capacity ≡ self.old.capacity) × (self.new.slots ≡ self.old.slots) }
+    {
         match &mut self.other {
             Some(other) => other.push(step)?,
             None => self.calls.push(step)?,
@@ -209,7 +216,9 @@ fn said_in(alloc: Global, line: &[u8]) -> Result<Option<Said>, AllocError> {
 }
 
 // Adds what a line says to the histories before it, and says whether it may stand there.
-fn take(alloc: Global, histories: &mut Vec<History>, said: Said) -> Result<bool, AllocError> {
+fn take(alloc: Global, histories: &mut Vec<History>, said: Said) -> Result<bool, AllocError>
+    ensures { IfOk result (λ taken. taken ≡ false → histories.new.items ≡ histories.old.items) }
+{
     if let Said::New(capacity, slots) = said {
         histories.push(History {
             capacity,

@@ -1,5 +1,5 @@
 // What the words of the command line ask for.
-ghost use Rattle.std.specs.Prelude.{◌≡◌, ◌≤◌, IfOk, option_map};
+ghost use Rattle.std.specs.Prelude.{◌≡◌, ◌≤◌, IfOk, IfSome, option_map};
 ghost use Rattle.forms.specs.Forms.{date_in};
 
 use anyhow::anyhow;
@@ -79,7 +79,9 @@ impl<'a> Wanted<'a> {
     }
 
     // What options and the first two words behind them ask for, and the words after them, of which there is one at least.
-    fn from_options(words: &'a [String]) -> anyhow::Result<(Wanted<'a>, &'a [String])> {
+    fn from_options(words: &'a [String]) -> anyhow::Result<(Wanted<'a>, &'a [String])>
+        ensures { IfOk result (λ given. given.0.slots ≤ 65536) }
+    {
         let (options, rest) = Options::from_words(words)?;
         match rest {
             [station, date, files @ ..] if !files.is_empty() => {
@@ -105,7 +107,9 @@ struct Options {
 
 impl Options {
     // The options that words begin with, each at most once, and the words after them.
-    fn from_words(words: &[String]) -> anyhow::Result<(Options, &[String])> {
+    fn from_words(words: &[String]) -> anyhow::Result<(Options, &[String])>
+        ensures { IfOk result (λ given. IfSome given.0.slots (λ slots. slots ≤ 65536)) }
+    {
         let mut options = Options {
             store: None,
             slots: None,
