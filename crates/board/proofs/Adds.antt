@@ -1,12 +1,13 @@
 -- The lines of one train, call by call.
-use Rattle.std.proofs.Common.{◌≡◌, ℕ, zero, suc, ◌+◌, ◌<◌, ◌≤◌, Bool, true, false, cond, ltb, leb, ◌⊎◌, List, [], ◌∷◌, length, get_or, take, is_some, Some, None, Option, sym, refl, ap, ◌∙◌, subst, inl, inr, ⊎_elim, add-one, arith}
+use Rattle.std.proofs.Common.{◌≡◌, ℕ, zero, suc, ◌+◌, ◌<◌, ◌≤◌, Bool, true, false, cond, ltb, leb, ◌⊎◌, List, [], ◌∷◌, ◌++◌, length, get_or, take, Some, None, Option, sym, refl, ap, ◌∙◌, subst, inl, inr, ⊎_elim, add-one, arith}
+use Rattle.std.proofs.lemmas.List.{length_push}
 use Rattle.std.proofs.lemmas.Slice.Eq.{bytes_eq-Decides}
-use Rattle.std.proofs.lemmas.Bool.{and_parts, cases_Bool, cond-true, cond-false, leb-true, cases_eq, lt-ltb, or_right}
+use Rattle.std.proofs.lemmas.Bool.{and_parts, cases_Bool, cond-true, cond-false, leb-true, cases_eq, lt-ltb}
 use Rattle.cif.specs.declared.content.Location.{Location}
 use Rattle.maps.specs.Orders.{same}
-use Rattle.maps.specs.Maps.{lookup, including}
-use Rattle.maps.proofs.Maps.{same_is, same_level, lookup_including}
-use Rattle.ordered.specs.Tables.{Put}
+use Rattle.maps.specs.Maps.{lookup, gathered}
+use Rattle.maps.proofs.Maps.{same_is, same_level, lookup_including, lookup_gathered}
+use Rattle.maps.proofs.Heaped.{gathered_push, apart_push}
 use Rattle.schedule.specs.declared.record.Record.{Record}
 use Rattle.std.specs.List.{list_all}
 use Rattle.schedule.specs.Records.{is_at, visits, few_visits}
@@ -35,7 +36,7 @@ line_here station r p l h =
     from t (Some minute) e = let same_line = some_is _ l e in record { place = sym (ap (λ (x : Line). x.key.place) same_line); uid = sym (ap (λ (x : Line). x.key.uid) same_line); at = t }
 
 pub added_none : (station : List ℕ) (r : Record) (xs : List Line) → Added station r 0 xs xs
-added_none station r xs = record { only = λ l o. inl o; kept = λ l o. o; every = λ l h. absurd (omega arith); few = omega arith }
+added_none station r xs = record { only = λ l o. inl o; kept = λ l o. o; every = λ l h. absurd (omega arith); few = omega arith; distinct = λ a. a }
 
 -- visits of one call more; past the calls there is none
 pub visits_more : (t : List ℕ) (cs : List Location) (p : ℕ) → is_at t no_call ≡ false → visits t (take (suc p) cs) ≡ cond (is_at t (get_or cs p no_call)) (visits t (take p cs) + 1) (visits t (take p cs))
@@ -52,16 +53,22 @@ visits_more t (c ∷ cs) (suc p) no-t =
     moved true n = refl
     moved false n = refl
 
-length_including : (xs : List Line) (x : Line) → length (including line_before line_key xs x) ≤ suc (length xs)
-length_including [] x = omega arith
-length_including (y ∷ ys) x =
+-- the line that a look-up finds has the key
+pub on_key : (xs : List Line) (k : LineKey) (l : Line) → lookup line_before line_key xs k ≡ Some l → line_key l ≡ k
+on_key [] k l h = absurd (none_some l h)
+on_key (y ∷ ys) k l h =
     ⊎_elim
-    (λ (t : line_before (line_key y) (line_key x) ≡ true). rw t (let h = length_including ys x in omega arith))
-    (λ (f : line_before (line_key y) (line_key x) ≡ false). ⊎_elim
-    (λ (t : line_before (line_key x) (line_key y) ≡ true). rw (f, t) (omega arith))
-    (λ (g : line_before (line_key x) (line_key y) ≡ false). rw (f, g) (omega arith))
-    (cases_Bool (line_before (line_key x) (line_key y))))
-    (cases_Bool (line_before (line_key y) (line_key x)))
+    (λ t. ap line_key (some_is l y (sym h ∙ cond-true (same line_before (line_key y) k) (Some y) (lookup line_before line_key ys k) t)) ∙ same_is line_before line_key line_lawful (line_key y) k t)
+    (λ f. on_key ys k l (sym (cond-false (same line_before (line_key y) k) (Some y) (lookup line_before line_key ys k) f) ∙ h))
+    (cases_Bool (same line_before (line_key y) k))
+
+-- a look-up after a push of a new key
+lookup_push : (ys : List Line) (x : Line) (k : LineKey) → lookup line_before line_key ys (line_key x) ≡ None → lookup line_before line_key (ys ++ x ∷ []) k ≡ cond (same line_before (line_key x) k) (Some x) (lookup line_before line_key ys k)
+lookup_push ys x k none =
+    sym (lookup_gathered line_before line_key line_lawful (ys ++ x ∷ []) k)
+    ∙ ap (λ m. lookup line_before line_key m k) (gathered_push line_before line_key line_lawful ys x none)
+    ∙ lookup_including line_before line_key line_lawful (gathered line_before line_key ys) x k
+    ∙ ap (λ o. cond (same line_before (line_key x) k) (Some x) o) (lookup_gathered line_before line_key line_lawful ys k)
 
 some_at : {X : Type 0} (o : Option X) (x y : X) → o ≡ Some x → o ≡ Some y → x ≡ y
 some_at o x y p q = some_is x y (sym p ∙ q)
@@ -90,20 +97,35 @@ module _ (station : List ℕ) (r : Record) (p : ℕ) (xs ys : List Line) (a : Ad
         (λ ne. a.every l (omega arith) e)
         (cases_eq l.key.place p);
     few = let f = a.few in let v = visit_least in omega arith;
+    distinct = a.distinct;
   }
 
   module _ (x : Line) (line : Some x ≡ line_at station r p) (fresh : (l : Line) → On xs l → l.key.uid ≡ r.key.uid → ⊥) where
     here : Here station r p x
     here = line_here station r p x (sym line)
 
+    -- no line so far has its key
+    absent : lookup line_before line_key ys (line_key x) ≡ None
+    absent = of (lookup line_before line_key ys (line_key x)) refl
+      where
+        of : (o : Option Line) → lookup line_before line_key ys (line_key x) ≡ o → lookup line_before line_key ys (line_key x) ≡ None
+        of None e = e
+        of (Some l) e =
+            let k = on_key ys (line_key x) l e in
+            let q = here.place in
+            absurd (⊎_elim
+            (λ old. fresh l old (ap (λ (j : LineKey). j.uid) k ∙ here.uid))
+            (λ h. let s = ap (λ (j : LineKey). j.place) k in let b = h.0 in omega arith)
+            (a.only l (ap (lookup line_before line_key ys) k ∙ e)))
+
     abbrev after : List Line
-    after = including line_before line_key ys x
+    after = ys ++ x ∷ []
 
     looked : (l : Line) → lookup line_before line_key after (line_key l) ≡ cond (same line_before (line_key x) (line_key l)) (Some x) (lookup line_before line_key ys (line_key l))
-    looked l = lookup_including line_before line_key line_lawful ys x (line_key l)
+    looked l = lookup_push ys x (line_key l) absent
 
-    apart : (l : Line) → (line_key x ≡ line_key l → ⊥) → On ys l → On after l
-    apart l ne o = looked l ∙ (cond-false (same line_before (line_key x) (line_key l)) _ _ (other_key (line_key x) (line_key l) ne) ∙ o)
+    stays : (l : Line) → (line_key x ≡ line_key l → ⊥) → On ys l → On after l
+    stays l ne o = looked l ∙ (cond-false (same line_before (line_key x) (line_key l)) _ _ (other_key (line_key x) (line_key l) ne) ∙ o)
 
     on_x : On after x
     on_x = looked x ∙ cond-true (same line_before (line_key x) (line_key x)) _ _ (same_level line_before line_key line_lawful (line_key x) (line_key x) refl)
@@ -119,16 +141,17 @@ module _ (station : List ℕ) (r : Record) (p : ℕ) (xs ys : List Line) (a : Ad
           (λ f. ⊎_elim (λ old. inl old) (λ h. inr (let q = h.0 in omega arith, h.1))
           (a.only l (sym (looked l ∙ cond-false (same line_before (line_key x) (line_key l)) (Some x) (lookup line_before line_key ys (line_key l)) f) ∙ o)))
           (cases_Bool (same line_before (line_key x) (line_key l)));
-      kept = λ l o. apart l (λ e. fresh l o (sym (ap (λ (k : LineKey). k.uid) e) ∙ here.uid)) (a.kept l o);
+      kept = λ l o. stays l (λ e. fresh l o (sym (ap (λ (k : LineKey). k.uid) e) ∙ here.uid)) (a.kept l o);
       every = λ l h e. ⊎_elim
           (λ (same_place : l.key.place ≡ p). subst (λ (y : Line). On after y) (some_is x l (line ∙ (ap (line_at station r) (sym same_place) ∙ e))) on_x)
-          (λ ne. apart l (λ k. ne (sym (ap (λ (j : LineKey). j.place) k) ∙ here.place)) (a.every l (omega arith) e))
+          (λ ne. stays l (λ k. ne (sym (ap (λ (j : LineKey). j.place) k) ∙ here.place)) (a.every l (omega arith) e))
           (cases_eq l.key.place p);
       few =
           let f = a.few in
-          let n = length_including ys x in
+          let n = length_push ys x in
           let v = visit_more ∙ cond-true (is_at station (call_at r p)) _ _ here.at in
           omega arith;
+      distinct = λ d. apart_push line_before line_key line_lawful ys x absent (a.distinct d);
     }
 
 -- no schedule has more than two calls at a station
@@ -144,14 +167,10 @@ two_visits t cs few = ⊎_elim (λ h. h) (λ none. omega arith) (look cs few)
         (λ (u : is_at t d ≡ false). ⊎_elim (λ h. inl h) (λ none. inr (cond-false (is_at t d) _ _ u ∙ none)) (look ds q.1))
         (cases_Bool (is_at t d))
 
--- with room, a line that is put is there
-pub put_is : (ys zs : List Line) (n : ℕ) (x : Line) (r : Bool) → Put line_before line_key ys zs n x r → length ys < n → zs ≡ including line_before line_key ys x
-put_is ys zs n x r h l =
-    h.gives ∙ cond-true r _ _ (h.done ∙ or_right (is_some (lookup line_before line_key ys (line_key x))) (ltb (length ys) n) (lt-ltb (length ys) n l))
-
-pub added_put : (station : List ℕ) (r : Record) (p : ℕ) (xs ys zs : List Line) (n : ℕ) (x : Line) (b : Bool) → Added station r p xs ys → is_at station no_call ≡ false → Some x ≡ line_at station r p → ((l : Line) → On xs l → l.key.uid ≡ r.key.uid → ⊥) → Put line_before line_key ys zs n x b → (is_at station (call_at r p) ≡ true → length ys < n) → Added station r (p + 1) xs zs
-added_put station r p xs ys zs n x b a no_station line fresh put room =
-    subst (λ (v : List Line). Added station r (p + 1) xs v) (sym (put_is ys zs n x b put (room (line_here station r p x (sym line)).at))) (added_line station r p xs ys a no_station x line fresh)
+-- with room, a line that is pushed is there
+pub added_push : (station : List ℕ) (r : Record) (p : ℕ) (xs ys zs : List Line) (n : ℕ) (x : Line) (b : Bool) → Added station r p xs ys → is_at station no_call ≡ false → Some x ≡ line_at station r p → ((l : Line) → On xs l → l.key.uid ≡ r.key.uid → ⊥) → b ≡ ltb (length ys) n → (b ≡ true → zs ≡ ys ++ x ∷ []) → (is_at station (call_at r p) ≡ true → length ys < n) → Added station r (p + 1) xs zs
+added_push station r p xs ys zs n x b a no_station line fresh done pushed room =
+    subst (λ (v : List Line). Added station r (p + 1) xs v) (sym (pushed (done ∙ lt-ltb (length ys) n (room (line_here station r p x (sym line)).at)))) (added_line station r p xs ys a no_station x line fresh)
 
 -- more calls have no fewer visits
 visits_mono : (t : List ℕ) (cs : List Location) (a b : ℕ) → a ≤ b → visits t (take a cs) ≤ visits t (take b cs)

@@ -1,11 +1,11 @@
 -- A walk over the trains of a map that fills in a board.
 use Rattle.std.proofs.Common.{◌≡◌, ℕ, ◌+◌, ◌<◌, ◌≤◌, true, false, ltb, List, [], ◌∷◌, length, Some, None, Option, sym, refl, ap, ◌∙◌, subst, ⊎_elim, arith}
-use Rattle.std.proofs.lemmas.Bool.{and_parts, ltb-true, both_ways, cases_Bool, cases_lt, cases_order, cond-true, cond-false}
+use Rattle.std.proofs.lemmas.Bool.{and_parts, ltb-true, both_ways, cases_Bool, cases_lt, cases_order}
 use Rattle.std.proofs.lemmas.Bool.Decides.{nat_tests}
 use Rattle.forms.specs.declared.letters.Stp.TheVariants.{Cancellation}
-use Rattle.maps.specs.Maps.{ascending, lookup}
-use Rattle.maps.specs.Orders.{same}
-use Rattle.maps.proofs.Maps.{same_maps, same_is}
+use Rattle.maps.specs.Maps.{ascending, lookup, gathered, apart}
+use Rattle.maps.proofs.Maps.{same_maps, ascending_gathered, lookup_gathered}
+use Rattle.maps.proofs.Heaped.{length_gathered}
 use Rattle.schedule.specs.declared.key.Key.{Key}
 use Rattle.schedule.specs.declared.record.Record.{Record}
 use Rattle.schedule.specs.Keys.{key_before}
@@ -14,13 +14,14 @@ use Rattle.timetable.specs.Timetables.{not_before, IsMap}
 use Rattle.timetable.proofs.Nexts.{Next, next, all_before, has_held, found_key, left, left_falls, moves_on}
 use Rattle.timetable.proofs.Valid.{found_valid}
 use Rattle.running.specs.Running.{Holds}
-use Rattle.running.proofs.Forces.{some_is, none_some}
+use Rattle.running.proofs.Forces.{none_some}
 use Rattle.running.proofs.Walks.{held_has}
 use Rattle.board.specs.declared.line.LineKey.{LineKey}
 use Rattle.board.specs.declared.line.Line.{Line}
 use Rattle.board.specs.Lines.{line_before, line_key, IsLine, BoardOf, BoardIsOne}
-use Rattle.board.specs.Filling.{Fresh, UpTo, Trained}
+use Rattle.board.specs.Filling.{Fresh, UpTo, Trained, AllLines}
 use Rattle.board.specs.LineOrders.{line_lawful}
+use Rattle.board.proofs.Adds.{on_key}
 
 -- the first key that a train can have
 abbrev pub first_of : ℕ → Key
@@ -42,7 +43,7 @@ lower_uid : (a b : Key) → a.uid < b.uid → key_before a b ≡ true
 lower_uid a b l = grind (arith, nat_tests)
 
 pub start : (m : List Record) (station : List ℕ) (day : ℕ) → UpTo m station day 0 []
-start m station day = record { only = λ l o. absurd (none_some l o); every = λ l i h. absurd (omega arith) }
+start m station day = record { only = λ l o. absurd (none_some l o); every = λ l i h. absurd (omega arith); distinct = refl }
 
 line_held : (m : List Record) (station : List ℕ) (day : ℕ) (l : Line) → (i : IsLine m station day l) → Holds m i.schedule
 line_held m station day l i = i.force.candidate.there
@@ -73,18 +74,34 @@ module _ (m : List Record) (station : List ℕ) (day u : ℕ) (key : Key) (n : N
           (λ above. absurd (omega arith))
           d)
           (cases_order l.key.uid key.uid);
+      distinct = t.distinct w.distinct;
     }
 
 -- at the end all lines are there
-pub whole : (m : List Record) (station : List ℕ) (day u : ℕ) (ys : List Line) → IsMap m → None ≡ not_before m (first_of u) → UpTo m station day u ys → ascending line_before line_key ys ≡ true → BoardOf m station day ys
-whole m station day u ys is none w up = record {
-  ordered = up;
+pub whole : (m : List Record) (station : List ℕ) (day u : ℕ) (ys : List Line) → IsMap m → None ≡ not_before m (first_of u) → UpTo m station day u ys → AllLines m station day ys
+whole m station day u ys is none w = record {
   only = λ l o. (w.only l o).0;
   every = λ l i.
       let e = i.force.candidate.train in
       let b = before_train (key_of i.schedule) u (all_before m (first_of u) is (sym none) (key_of i.schedule) (held_has m i.schedule (line_held m station day l i))) in
       w.every l i (omega arith);
+  distinct = w.distinct;
 }
+
+-- all lines in the order of their keys are the board
+pub board_of : (m : List Record) (station : List ℕ) (day : ℕ) (ys zs : List Line) → AllLines m station day ys → (apart line_before line_key ys ≡ true → zs ≡ gathered line_before line_key ys) → BoardOf m station day zs
+board_of m station day ys zs all sorted =
+    let e = sorted all.distinct in
+    let look : (l : Line) → lookup line_before line_key zs (line_key l) ≡ lookup line_before line_key ys (line_key l)
+    = λ l. ap (λ v. lookup line_before line_key v (line_key l)) e ∙ lookup_gathered line_before line_key line_lawful ys (line_key l) in
+    record {
+      ordered = ap (ascending line_before line_key) e ∙ ascending_gathered line_before line_key line_lawful ys;
+      only = λ l o. all.only l (sym (look l) ∙ o);
+      every = λ l i. look l ∙ all.every l i;
+    }
+
+pub as_many : (ys zs : List Line) → apart line_before line_key ys ≡ true → (apart line_before line_key ys ≡ true → zs ≡ gathered line_before line_key ys) → length zs ≡ length ys
+as_many ys zs a sorted = ap length (sorted a) ∙ length_gathered line_before line_key line_lawful ys a
 
 -- the measure: how many keys are left
 pub left_all : (m : List Record) (probe : Key) → left m probe ≤ length m
@@ -116,14 +133,6 @@ line_of xs k P some none = of (lookup line_before line_key xs k) refl
     of : (o : Option Line) → lookup line_before line_key xs k ≡ o → P
     of (Some l) e = some l e
     of None e = none e
-
-on_key : (xs : List Line) (k : LineKey) (l : Line) → lookup line_before line_key xs k ≡ Some l → line_key l ≡ k
-on_key [] k l h = absurd (none_some l h)
-on_key (y ∷ ys) k l h =
-    ⊎_elim
-    (λ t. ap line_key (some_is l y (sym h ∙ cond-true (same line_before (line_key y) k) (Some y) (lookup line_before line_key ys k) t)) ∙ same_is line_before line_key line_lawful (line_key y) k t)
-    (λ f. on_key ys k l (sym (cond-false (same line_before (line_key y) k) (Some y) (lookup line_before line_key ys k) f) ∙ h))
-    (cases_Bool (same line_before (line_key y) k))
 
 -- a line of one map's board is a line of the other's, under the same key
 carried : (m n : List Record) (station : List ℕ) (day : ℕ) (xs ys : List Line) → BoardOf m station day xs → BoardOf n station day ys → (k : LineKey) → ((l : Line) → line_key l ≡ k → IsLine m station day l → IsLine n station day l) → (l : Line) → lookup line_before line_key xs k ≡ Some l → lookup line_before line_key ys k ≡ Some l

@@ -38,7 +38,7 @@ calls station r v =
 module _ (m : List Record) (station : List ℕ) (day uid : ℕ) (xs : List Line) where
   -- no line where nothing can be in force
   pub trained_none : ((l : Line) → IsLine m station day l → l.key.uid ≡ uid → ⊥) → Trained m station day uid xs xs
-  trained_none none = record { only = λ l o. inl o; kept = λ l o. o; every = λ l i e. absurd (none l i e); few = omega arith }
+  trained_none none = record { only = λ l o. inl o; kept = λ l o. o; every = λ l i e. absurd (none l i e); few = omega arith; distinct = λ a. a }
 
   in_force_is : (r : Record) → InForce m uid day r → (l : Line) → (i : IsLine m station day l) → l.key.uid ≡ uid → i.schedule ≡ r
   in_force_is r f l i e = one m uid day i.schedule r (subst (λ (u : ℕ). InForce m u day i.schedule) e i.force) f
@@ -58,6 +58,7 @@ module _ (m : List Record) (station : List ℕ) (day uid : ℕ) (xs : List Line)
         let s = in_force_is r f l i e in
         a.every l (subst (λ (x : Record). l.key.place < x.count) s i.kept) (ap (λ (x : Record). line_at station x l.key.place) (sym s) ∙ i.line);
     few = let n = a.few in let t = (calls station r v).two in omega arith;
+    distinct = a.distinct;
   }
 
 pub train_alone : LinesOfTrainAlone

@@ -1,9 +1,10 @@
--- How a board's lines are filled in, call by call and train by train.
-use Rattle.std.specs.Prelude.{◌≡◌, ℕ, ◌+◌, ◌<◌, ◌≤◌, ◌⊎◌, List, length, take, Some, ◌≢◌}
+-- How a board's lines are filled in, call by call and train by train, in any order.
+use Rattle.std.specs.Prelude.{◌≡◌, ℕ, ◌+◌, ◌<◌, ◌≤◌, true, ◌⊎◌, List, length, take, Some, ◌≢◌}
+use Rattle.maps.specs.Maps.{apart}
 use Rattle.schedule.specs.declared.record.Record.{Record}
 use Rattle.schedule.specs.Records.{visits}
 use Rattle.board.specs.declared.line.Line.{Line}
-use Rattle.board.specs.Lines.{On, line_at, IsLine}
+use Rattle.board.specs.Lines.{line_before, line_key, On, line_at, IsLine}
 
 -- the lines of xs, and those of the first p calls of a schedule, and no other
 pub record Added (station : List ℕ) (r : Record) (p : ℕ) (xs ys : List Line) : Type 0 where
@@ -11,6 +12,7 @@ pub record Added (station : List ℕ) (r : Record) (p : ℕ) (xs ys : List Line)
   pub kept : (l : Line) → On xs l → On ys l
   pub every : (l : Line) → l.key.place < p → line_at station r l.key.place ≡ Some l → On ys l
   pub few : length ys ≤ length xs + visits station (take p r.calls)
+  pub distinct : apart line_before line_key xs ≡ true → apart line_before line_key ys ≡ true
 
 -- no line of xs is of a train
 abbrev pub Fresh : List Line → ℕ → Type 0
@@ -20,6 +22,7 @@ Fresh xs uid = (l : Line) → On xs l → l.key.uid ≢ uid
 pub record UpTo (m : List Record) (station : List ℕ) (day u : ℕ) (ys : List Line) : Type 0 where
   pub only : (l : Line) → On ys l → IsLine m station day l × (l.key.uid < u)
   pub every : (l : Line) → IsLine m station day l → l.key.uid < u → On ys l
+  pub distinct : apart line_before line_key ys ≡ true
 
 -- the lines of xs and those of one train, and no other; a train has at most two
 pub record Trained (m : List Record) (station : List ℕ) (day uid : ℕ) (xs ys : List Line) : Type 0 where
@@ -27,3 +30,10 @@ pub record Trained (m : List Record) (station : List ℕ) (day uid : ℕ) (xs ys
   pub kept : (l : Line) → On xs l → On ys l
   pub every : (l : Line) → IsLine m station day l → l.key.uid ≡ uid → On ys l
   pub few : length ys ≤ length xs + 2
+  pub distinct : apart line_before line_key xs ≡ true → apart line_before line_key ys ≡ true
+
+-- all lines, and no other
+pub record AllLines (m : List Record) (station : List ℕ) (day : ℕ) (ys : List Line) : Type 0 where
+  pub only : (l : Line) → On ys l → IsLine m station day l
+  pub every : (l : Line) → IsLine m station day l → On ys l
+  pub distinct : apart line_before line_key ys ≡ true

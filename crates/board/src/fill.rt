@@ -4,13 +4,13 @@ ghost use Rattle.ordered.specs.Tables.{items, room};
 ghost use Rattle.schedule.specs.Records.{is_at, visits};
 ghost use Rattle.board.specs.declared.line.Line.{Line};
 ghost use Rattle.board.specs.Lines.{no_call, call_at, line_at, BoardOf};
-ghost use Rattle.board.specs.Filling.{Added, Fresh, Trained};
+ghost use Rattle.board.specs.Filling.{Added, Fresh, Trained, AllLines};
 
 use crate::display::StationDay;
 use crate::line::{Line, LineKey};
 use forms::letters::Stp;
-use ordered::mapped::Mapped;
 use ordered::ordered::Ordered;
+use ordered::slots::Slots;
 use running::force::in_force;
 use schedule::check::is_at;
 use schedule::key::Key;
@@ -46,26 +46,28 @@ fn line_at(plain: &Record, place: u8, station: &[u8; 7]) -> Option<Line>
 }
 
 // Adds the line of the call at a place, if it has one.
-fn add_call(lines: &mut Ordered<'_, Line>, plain: &Record, place: u8, station: &[u8; 7])
+fn add_call(lines: &mut Slots<'_, Line>, plain: &Record, place: u8, station: &[u8; 7])
     requires place { place < 48 }
     requires station { is_at station.now no_call ≡ false }
-    requires room { is_at station.now (call_at plain.now place) ≡ true → length (items lines.old.inner) < room lines.old.inner }
-    ensures added { (xs : List Line) → Added station.now plain.now place xs (items lines.old.inner) → Fresh xs plain.now.key.uid → Added station.now plain.now (place + 1) xs (items lines.new.inner) }
-    ensures room { room lines.new.inner ≡ room lines.old.inner }
+    requires room { is_at station.now (call_at plain.now place) ≡ true → length (items lines.old) < room lines.old }
+    ensures added { (xs : List Line) → Added station.now plain.now place xs (items lines.old) → Fresh xs plain.now.key.uid → Added station.now plain.now (place + 1) xs (items lines.new) }
+    ensures room { room lines.new ≡ room lines.old }
+    ensures lender { lines.new.slots.ghost_name ≡ lines.old.slots.ghost_name }
 {
     if let Some(line) = line_at(plain, place, station) {
-        let _ = lines.put(line);
+        let _ = lines.push(line);
     }
 }
 
 // Adds the lines of a schedule's calls at a station.
-pub(crate) fn add_calls(lines: &mut Ordered<'_, Line>, plain: &Record, station: &[u8; 7])
+pub(crate) fn add_calls(lines: &mut Slots<'_, Line>, plain: &Record, station: &[u8; 7])
     requires count { plain.now.count ≤ 48 }
     requires station { is_at station.now no_call ≡ false }
-    requires room { length (items lines.old.inner) + visits station.now (take plain.now.count plain.now.calls) ≤ room lines.old.inner }
-    requires fresh { Fresh (items lines.old.inner) plain.now.key.uid }
-    ensures added { Added station.now plain.now plain.now.count (items lines.old.inner) (items lines.new.inner) }
-    ensures room { room lines.new.inner ≡ room lines.old.inner }
+    requires room { length (items lines.old) + visits station.now (take plain.now.count plain.now.calls) ≤ room lines.old }
+    requires fresh { Fresh (items lines.old) plain.now.key.uid }
+    ensures added { Added station.now plain.now plain.now.count (items lines.old) (items lines.new) }
+    ensures room { room lines.new ≡ room lines.old }
+    ensures lender { lines.new.slots.ghost_name ≡ lines.old.slots.ghost_name }
 {
     for place in 0..plain.count {
         add_call(lines, plain, place, station);
@@ -75,14 +77,15 @@ pub(crate) fn add_calls(lines: &mut Ordered<'_, Line>, plain: &Record, station: 
 // Adds the lines of a train: those of its schedule in force, unless there is none or it is a cancellation.
 fn add_train<T: Timetable>(
     timetable: &mut T,
-    lines: &mut Ordered<'_, Line>,
+    lines: &mut Slots<'_, Line>,
     uid: u32,
     shown: &StationDay,
 )
-    requires room { length (items lines.old.inner) + 2 ≤ room lines.old.inner }
-    requires fresh { Fresh (items lines.old.inner) uid }
-    ensures trained { Trained (T.Timetable.map timetable.old) shown.now.station shown.now.day uid (items lines.old.inner) (items lines.new.inner) }
-    ensures room { room lines.new.inner ≡ room lines.old.inner }
+    requires room { length (items lines.old) + 2 ≤ room lines.old }
+    requires fresh { Fresh (items lines.old) uid }
+    ensures trained { Trained (T.Timetable.map timetable.old) shown.now.station shown.now.day uid (items lines.old) (items lines.new) }
+    ensures room { room lines.new ≡ room lines.old }
+    ensures lender { lines.new.slots.ghost_name ≡ lines.old.slots.ghost_name }
     ensures same { timetable.new ≡ timetable.old }
 {
     let Some(schedule) = in_force(timetable, uid, shown.day) else {
@@ -95,7 +98,28 @@ fn add_train<T: Timetable>(
     }
 }
 
-// Sets the lines to those of a station and day, train by train.
+// Gathers the lines of a station and day in any order, train by train.
+fn gather_lines<T: Timetable>(timetable: &mut T, lines: &mut Slots<'_, Line>, shown: &StationDay)
+    requires room { 2 * length (T.Timetable.map timetable.old) ≤ room lines.old }
+    ensures lines { AllLines (T.Timetable.map timetable.old) shown.now.station shown.now.day (items lines.new) }
+    ensures few { length (items lines.new) ≤ 2 * length (T.Timetable.map timetable.old) }
+    ensures room { room lines.new ≡ room lines.old }
+    ensures lender { lines.new.slots.ghost_name ≡ lines.old.slots.ghost_name }
+    ensures same { timetable.new ≡ timetable.old }
+{
+    lines.len = 0;
+    let mut uid: u32 = 0;
+    while let Some(key) = timetable.not_before(Key {
+        uid,
+        from: 0,
+        stp: Stp::Cancellation,
+    }) {
+        add_train(timetable, lines, key.uid, shown);
+        uid = key.uid + 1;
+    }
+}
+
+// Sets the lines to those of a station and day.
 pub(crate) fn set_lines<T: Timetable>(
     timetable: &mut T,
     lines: &mut Ordered<'_, Line>,
@@ -107,14 +131,6 @@ pub(crate) fn set_lines<T: Timetable>(
     ensures room { room lines.new.inner ≡ room lines.old.inner }
     ensures same { timetable.new ≡ timetable.old }
 {
-    lines.inner.len = 0;
-    let mut uid: u32 = 0;
-    while let Some(key) = timetable.not_before(Key {
-        uid,
-        from: 0,
-        stp: Stp::Cancellation,
-    }) {
-        add_train(timetable, lines, key.uid, shown);
-        uid = key.uid + 1;
-    }
+    gather_lines(timetable, &mut lines.inner, shown);
+    lines.inner.sort();
 }

@@ -2,4 +2,5 @@ pub mod Changes
 pub mod Halves
 pub mod Laws
 pub mod Shifts
+pub mod Sorts
 pub mod Whole

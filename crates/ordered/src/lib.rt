@@ -8,4 +8,5 @@ pub mod moves;
 pub mod ordered;
 pub mod shift;
 pub mod slots;
+pub mod sort;
 pub mod table;

@@ -5,25 +5,27 @@ use Rattle.board.proofs.Adds.{added_none, room_for}
 use Rattle.board.proofs.fill.add_calls.Goals as goal
 
 pub loop-place-init : goal.loop-place-init
-loop-place-init c = (added_none _ _ _, refl)
+loop-place-init c = (added_none _ _ _, refl, refl)
 
 pub add_call-requires : goal.add_call-requires
 add_call-requires c = record {
   place = (let k = c.requires.count in omega arith);
   station = c.requires.station;
-  room = λ at. subst (λ (n : ℕ). length (items c.loop-place.lines.inner) < n) (sym c.loop-place.invariant.1)
-      (room_for c.args.station.now c.args.plain.now c.loop-place.place (room c.args.lines.now.inner) c.args.plain.now.count (items c.args.lines.now.inner) (items c.loop-place.lines.inner) c.loop-place.invariant.0 c.requires.station (omega arith) c.requires.room at);
+  room = λ at. subst (λ (n : ℕ). length (items c.loop-place.lines) < n) (sym c.loop-place.invariant.1)
+      (room_for c.args.station.now c.args.plain.now c.loop-place.place (room c.args.lines.now) c.args.plain.now.count (items c.args.lines.now) (items c.loop-place.lines) c.loop-place.invariant.0 c.requires.station (omega arith) c.requires.room at);
 }
 
 pub loop-place-preserved : goal.loop-place-preserved
 loop-place-preserved c = (
-  c.add_call.ensures.added (items c.args.lines.now.inner) c.loop-place.invariant.0 c.requires.fresh,
+  c.add_call.ensures.added (items c.args.lines.now) c.loop-place.invariant.0 c.requires.fresh,
   c.add_call.ensures.room ∙ c.loop-place.invariant.1,
+  c.add_call.ensures.lender ∙ c.loop-place.invariant.2,
 )
 
 pub returns : goal.returns
 returns c = record {
   added = (let e : c.loop-place.place ≡ c.args.plain.now.count = (let k = c.loop-place.auto.place-end in let t = c.loop-place-test.false in omega arith) in
-      subst (λ (n : ℕ). Added c.args.station.now c.args.plain.now n (items c.args.lines.now.inner) (items c.loop-place.lines.inner)) e c.loop-place.invariant.0);
+      subst (λ (n : ℕ). Added c.args.station.now c.args.plain.now n (items c.args.lines.now) (items c.loop-place.lines)) e c.loop-place.invariant.0);
   room = c.loop-place.invariant.1;
+  lender = c.loop-place.invariant.2;
 }

@@ -5,5 +5,6 @@ use Rattle.board.proofs.fill.add_calls.Given as goal
 
 abbrev pub invariant-loop-place : goal.invariant-loop-place
 invariant-loop-place l =
-    Added l.station l.plain l.place (items l.initial.lines.inner) (items l.lines.inner)
-    × (room l.lines.inner ≡ room l.initial.lines.inner)
+    Added l.station l.plain l.place (items l.initial.lines) (items l.lines)
+    × (room l.lines ≡ room l.initial.lines)
+    × (l.lines.slots.ghost_name ≡ l.initial.lines.slots.ghost_name)

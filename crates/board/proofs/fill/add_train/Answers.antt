@@ -10,9 +10,10 @@ pub returns-in-Cancellation : goal.returns-in-Cancellation
 returns-in-Cancellation g c =
     let m = g.T.Timetable.map c.args.timetable.now in
     record {
-      trained = trained_none m c.args.shown.now.station c.args.shown.now.day c.args.uid (items c.args.lines.now.inner)
-          (cancelled_none m c.args.shown.now.station c.args.shown.now.day c.args.uid (items c.args.lines.now.inner) c.in-Some.schedule.plain c.in-Some.ensures.value (ap (λ (r : Record). is_cancellation r.key.stp) (sym c.from-plain.ensures) ∙ ap is_cancellation c.in-Cancellation.is));
+      trained = trained_none m c.args.shown.now.station c.args.shown.now.day c.args.uid (items c.args.lines.now)
+          (cancelled_none m c.args.shown.now.station c.args.shown.now.day c.args.uid (items c.args.lines.now) c.in-Some.schedule.plain c.in-Some.ensures.value (ap (λ (r : Record). is_cancellation r.key.stp) (sym c.from-plain.ensures) ∙ ap is_cancellation c.in-Cancellation.is));
       room = refl;
+      lender = refl;
       same = c.in_force.ensures.same;
     }
 
@@ -32,9 +33,10 @@ pub returns-in_default-stp : goal.returns-in_default-stp
 returns-in_default-stp g c =
     let m = g.T.Timetable.map c.args.timetable.now in
     record {
-      trained = trained_calls m c.args.shown.now.station c.args.shown.now.day c.args.uid (items c.args.lines.now.inner) c.from-plain.result _
+      trained = trained_calls m c.args.shown.now.station c.args.shown.now.day c.args.uid (items c.args.lines.now) c.from-plain.result _
           (subst (λ (r : Record). InForce m c.args.uid c.args.shown.now.day r) (sym c.from-plain.ensures) c.in-Some.ensures.value)
           (runs_if _ c.in_default-stp.not-Cancellation) (ap is_schedule c.from-plain.ensures ∙ c.in-Some.schedule.valid) c.add_calls.ensures.added;
       room = c.add_calls.ensures.room;
+      lender = c.add_calls.ensures.lender;
       same = c.in_force.ensures.same;
     }
