@@ -1,3 +1,4 @@
+pub mod Rests
 pub mod Adds
 pub mod Boards
 pub mod Trains

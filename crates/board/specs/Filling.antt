@@ -1,6 +1,8 @@
 -- How a board's lines are filled in, call by call and train by train, in any order.
 use Rattle.std.specs.Prelude.{◌≡◌, ℕ, ◌+◌, ◌<◌, ◌≤◌, true, ◌⊎◌, List, length, take, Some, ◌≢◌}
 use Rattle.maps.specs.Maps.{apart}
+use Rattle.ordered.specs.declared.slots.Slots.{Slots}
+use Rattle.ordered.specs.Tables.{RestKept}
 use Rattle.schedule.specs.declared.record.Record.{Record}
 use Rattle.schedule.specs.Records.{visits}
 use Rattle.board.specs.declared.line.Line.{Line}
@@ -37,3 +39,8 @@ pub record AllLines (m : List Record) (station : List ℕ) (day : ℕ) (ys : Lis
   pub only : (l : Line) → On ys l → IsLine m station day l
   pub every : (l : Line) → IsLine m station day l → On ys l
   pub distinct : apart line_before line_key ys ≡ true
+
+-- lines were added behind those that were there: the slots past them keep what they had
+pub record Grown (s t : Slots Line) : Type 0 where
+  pub rest : RestKept s t
+  pub longer : s.len ≤ t.len

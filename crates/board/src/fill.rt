@@ -1,10 +1,10 @@
 // The lines of one train.
 ghost use Rattle.std.specs.Prelude.{◌≡◌, ℕ, ◌+◌, ◌*◌, ◌<◌, ◌≤◌, Bool, true, false, List, length, take};
-ghost use Rattle.ordered.specs.Tables.{items, room};
+ghost use Rattle.ordered.specs.Tables.{items, room, RestKept};
 ghost use Rattle.schedule.specs.Records.{is_at, visits};
 ghost use Rattle.board.specs.declared.line.Line.{Line};
 ghost use Rattle.board.specs.Lines.{no_call, call_at, line_at, BoardOf};
-ghost use Rattle.board.specs.Filling.{Added, Fresh, Trained, AllLines};
+ghost use Rattle.board.specs.Filling.{Added, Fresh, Trained, AllLines, Grown};
 
 use crate::display::StationDay;
 use crate::line::{Line, LineKey};
@@ -51,6 +51,7 @@ fn add_call(lines: &mut Slots<'_, Line>, plain: &Record, place: u8, station: &[u
     requires station { is_at station.now no_call ≡ false }
     requires room { is_at station.now (call_at plain.now place) ≡ true → length (items lines.old) < room lines.old }
     ensures added { (xs : List Line) → Added station.now plain.now place xs (items lines.old) → Fresh xs plain.now.key.uid → Added station.now plain.now (place + 1) xs (items lines.new) }
+    ensures grown { Grown lines.old lines.new }
     ensures room { room lines.new ≡ room lines.old }
     ensures lender { lines.new.slots.ghost_name ≡ lines.old.slots.ghost_name }
 {
@@ -66,6 +67,7 @@ pub(crate) fn add_calls(lines: &mut Slots<'_, Line>, plain: &Record, station: &[
     requires room { length (items lines.old) + visits station.now (take plain.now.count plain.now.calls) ≤ room lines.old }
     requires fresh { Fresh (items lines.old) plain.now.key.uid }
     ensures added { Added station.now plain.now plain.now.count (items lines.old) (items lines.new) }
+    ensures grown { Grown lines.old lines.new }
     ensures room { room lines.new ≡ room lines.old }
     ensures lender { lines.new.slots.ghost_name ≡ lines.old.slots.ghost_name }
 {
@@ -84,6 +86,7 @@ fn add_train<T: Timetable>(
     requires room { length (items lines.old) + 2 ≤ room lines.old }
     requires fresh { Fresh (items lines.old) uid }
     ensures trained { Trained (T.Timetable.map timetable.old) shown.now.station shown.now.day uid (items lines.old) (items lines.new) }
+    ensures grown { Grown lines.old lines.new }
     ensures room { room lines.new ≡ room lines.old }
     ensures lender { lines.new.slots.ghost_name ≡ lines.old.slots.ghost_name }
     ensures same { timetable.new ≡ timetable.old }
@@ -103,6 +106,7 @@ fn gather_lines<T: Timetable>(timetable: &mut T, lines: &mut Slots<'_, Line>, sh
     requires room { 2 * length (T.Timetable.map timetable.old) ≤ room lines.old }
     ensures lines { AllLines (T.Timetable.map timetable.old) shown.now.station shown.now.day (items lines.new) }
     ensures few { length (items lines.new) ≤ 2 * length (T.Timetable.map timetable.old) }
+    ensures rest { RestKept lines.old lines.new }
     ensures room { room lines.new ≡ room lines.old }
     ensures lender { lines.new.slots.ghost_name ≡ lines.old.slots.ghost_name }
     ensures same { timetable.new ≡ timetable.old }
@@ -128,6 +132,7 @@ pub(crate) fn set_lines<T: Timetable>(
     requires room { 2 * length (T.Timetable.map timetable.old) ≤ room lines.old.inner }
     ensures board { BoardOf (T.Timetable.map timetable.old) shown.now.station shown.now.day (items lines.new.inner) }
     ensures few { length (items lines.new.inner) ≤ 2 * length (T.Timetable.map timetable.old) }
+    ensures rest { RestKept lines.old.inner lines.new.inner }
     ensures room { room lines.new.inner ≡ room lines.old.inner }
     ensures same { timetable.new ≡ timetable.old }
 {

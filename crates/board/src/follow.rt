@@ -1,7 +1,7 @@
 // A board that follows a store.
 ghost use Rattle.std.specs.Prelude.{◌≡◌, ◌*◌, ◌≤◌, Bool, true, false, length, is_ok};
 ghost use Rattle.cif.specs.Refusals.{uppermost, fault_of};
-ghost use Rattle.ordered.specs.Tables.{items, room};
+ghost use Rattle.ordered.specs.Tables.{items, room, RestKept};
 ghost use Rattle.board.specs.Lines.{LinesFor};
 ghost use Rattle.board.specs.Turning.{slot_lines};
 
@@ -31,6 +31,7 @@ impl Board<'_> {
         ensures lines { is_ok result ≡ true → LinesFor (S.Timetable.map store.old) self.old.shown (items self.new.lines.inner) }
         ensures shown { self.new.shown ≡ self.old.shown }
         ensures slots { room self.new.lines.inner ≡ room self.old.lines.inner }
+        ensures rest { RestKept self.old.lines.inner self.new.lines.inner }
         ensures unchanged { is_ok result ≡ false → self.new ≡ self.old }
         ensures same { store.new ≡ store.old }
     {

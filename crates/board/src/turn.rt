@@ -1,7 +1,7 @@
 // What a board can be asked to do.
 ghost use Rattle.std.specs.Prelude.{◌≡◌, ℕ, ◌*◌, ◌<◌, ◌≤◌, Bool, true, false, List, [], length, is_ok, Some, None, MatchOption, slice_get, slice_index_or};
 ghost use Rattle.cif.specs.Refusals.{uppermost, fault_of};
-ghost use Rattle.ordered.specs.Tables.{items, room};
+ghost use Rattle.ordered.specs.Tables.{items, room, RestKept};
 ghost use Rattle.board.specs.declared.line.Line.{Line};
 ghost use Rattle.board.specs.Lines.{BoardOf};
 ghost use Rattle.board.specs.Turning.{shown_for, turn_lines};
@@ -69,6 +69,7 @@ impl Board<'_> {
         ensures few { is_ok result ≡ true → length (items self.new.lines.inner) ≤ 2 * length (S.Timetable.map store.old) }
         ensures set { is_ok result ≡ true → self.new.shown ≡ Some (record { station = station.now; day = day }) }
         ensures slots { room self.new.lines.inner ≡ room self.old.lines.inner }
+        ensures rest { RestKept self.old.lines.inner self.new.lines.inner }
         ensures unchanged { is_ok result ≡ false → self.new ≡ self.old }
         ensures same { store.new ≡ store.old }
     {

@@ -1,7 +1,7 @@
 // An extract that is confirmed.
 ghost use Rattle.std.specs.Prelude.{◌≡◌, ◌+◌, min, Bool, true, false, length, is_ok};
 ghost use Rattle.cif.specs.Refusals.{uppermost, fault_of};
-ghost use Rattle.ordered.specs.Tables.{items, room};
+ghost use Rattle.ordered.specs.Tables.{items, room, RestKept};
 ghost use Rattle.overlay.specs.Settling.{tried_all};
 ghost use Rattle.board.specs.Lines.{LinesFor};
 ghost use Rattle.extract.specs.Progress.{idle};
@@ -41,6 +41,7 @@ impl<S: Store> Controller<S> {
         ensures idle { is_ok result ≡ true → progress_in self.new ≡ idle }
         ensures capacity { S.Timetable.capacity self.new.overlay.store ≡ S.Timetable.capacity self.old.overlay.store }
         ensures board { (board.new.shown ≡ board.old.shown) × (room board.new.lines.inner ≡ room board.old.lines.inner) }
+        ensures rest { RestKept board.old.lines.inner board.new.lines.inner }
         ensures unchanged { is_ok result ≡ false → (self.new ≡ self.old) × (board.new ≡ board.old) }
         ensures obeys { Obeys (state_in S.Timetable.map S.Timetable.capacity self.old board.old) (state_in S.Timetable.map S.Timetable.capacity self.new board.new) ToConfirm (answered result) }
     {

@@ -1,7 +1,7 @@
 // A board turned from the store of a controller.
 ghost use Rattle.std.specs.Prelude.{◌≡◌, Bool, true, false, is_ok, Some};
 ghost use Rattle.cif.specs.Refusals.{fault_of};
-ghost use Rattle.ordered.specs.Tables.{items, room};
+ghost use Rattle.ordered.specs.Tables.{items, room, RestKept};
 ghost use Rattle.board.specs.Lines.{BoardOf};
 ghost use Rattle.controller.specs.Calls.{Turn as ToTurn, refusal_of};
 ghost use Rattle.controller.specs.Shown.{standing_in};
@@ -26,6 +26,7 @@ impl<S: Store> Controller<S> {
         ensures lines { is_ok result ≡ true → BoardOf (S.Timetable.map self.old.overlay.store) station.now day (items board.new.lines.inner) }
         ensures set { is_ok result ≡ true → board.new.shown ≡ Some (record { station = station.now; day = day }) }
         ensures slots { room board.new.lines.inner ≡ room board.old.lines.inner }
+        ensures rest { RestKept board.old.lines.inner board.new.lines.inner }
         ensures unchanged { is_ok result ≡ false → board.new ≡ board.old }
         ensures same { self.new ≡ self.old }
         ensures obeys { Obeys (state_in S.Timetable.map S.Timetable.capacity self.old board.old) (state_in S.Timetable.map S.Timetable.capacity self.new board.new) (ToTurn station.now day) (answered result) }

@@ -42,6 +42,7 @@ impl<E: Copy> Slots<'_, E> {
         ensures items { is_ok result ≡ true → items self.new ≡ items self.old ++ entry ∷ [] }
         ensures unchanged { is_ok result ≡ false → self.new ≡ self.old }
         ensures rest { RestKept self.old self.new }
+        ensures longer { self.old.len ≤ self.new.len }
         ensures lender { self.new.slots.ghost_name ≡ self.old.slots.ghost_name }
     {
         let n = self.len;

@@ -2,10 +2,11 @@ use Rattle.std.proofs.Common.{◌≡◌, ℕ, ◌<◌, length, sym, refl, ◌∙
 use Rattle.ordered.specs.Tables.{items, room}
 use Rattle.board.specs.Filling.{Added}
 use Rattle.board.proofs.Adds.{added_none, room_for}
+use Rattle.board.proofs.Rests.{grown_none, grown_more}
 use Rattle.board.proofs.fill.add_calls.Goals as goal
 
 pub loop-place-init : goal.loop-place-init
-loop-place-init c = (added_none _ _ _, refl, refl)
+loop-place-init c = (added_none _ _ _, refl, refl, grown_none _)
 
 pub add_call-requires : goal.add_call-requires
 add_call-requires c = record {
@@ -20,6 +21,7 @@ loop-place-preserved c = (
   c.add_call.ensures.added (items c.args.lines.now) c.loop-place.invariant.0 c.requires.fresh,
   c.add_call.ensures.room ∙ c.loop-place.invariant.1,
   c.add_call.ensures.lender ∙ c.loop-place.invariant.2,
+  grown_more _ _ _ c.loop-place.invariant.3 c.add_call.ensures.grown,
 )
 
 pub returns : goal.returns
@@ -28,4 +30,5 @@ returns c = record {
       subst (λ (n : ℕ). Added c.args.station.now c.args.plain.now n (items c.args.lines.now) (items c.loop-place.lines)) e c.loop-place.invariant.0);
   room = c.loop-place.invariant.1;
   lender = c.loop-place.invariant.2;
+  grown = c.loop-place.invariant.3;
 }

@@ -1,6 +1,6 @@
 use Rattle.std.proofs.Common.{◌≡◌}
 use Rattle.ordered.specs.Tables.{items, room}
-use Rattle.board.specs.Filling.{Added}
+use Rattle.board.specs.Filling.{Added, Grown}
 use Rattle.board.proofs.fill.add_calls.Given as goal
 
 abbrev pub invariant-loop-place : goal.invariant-loop-place
@@ -8,3 +8,4 @@ invariant-loop-place l =
     Added l.station l.plain l.place (items l.initial.lines) (items l.lines)
     × (room l.lines ≡ room l.initial.lines)
     × (l.lines.slots.ghost_name ≡ l.initial.lines.slots.ghost_name)
+    × Grown l.initial.lines l.lines

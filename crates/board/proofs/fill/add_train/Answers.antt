@@ -3,6 +3,7 @@ use Rattle.ordered.specs.Tables.{items}
 use Rattle.schedule.specs.declared.record.Record.{Record}
 use Rattle.schedule.specs.Records.{is_cancellation, is_schedule}
 use Rattle.running.specs.Running.{InForce}
+use Rattle.board.proofs.Rests.{grown_none}
 use Rattle.board.proofs.Trains.{no_station, runs_if, calls, trained_none, cancelled_none, trained_calls}
 use Rattle.board.proofs.fill.add_train.Goals as goal
 
@@ -14,6 +15,7 @@ returns-in-Cancellation g c =
           (cancelled_none m c.args.shown.now.station c.args.shown.now.day c.args.uid (items c.args.lines.now) c.in-Some.schedule.plain c.in-Some.ensures.value (ap (λ (r : Record). is_cancellation r.key.stp) (sym c.from-plain.ensures) ∙ ap is_cancellation c.in-Cancellation.is));
       room = refl;
       lender = refl;
+      grown = grown_none c.args.lines.now;
       same = c.in_force.ensures.same;
     }
 
@@ -38,5 +40,6 @@ returns-in_default-stp g c =
           (runs_if _ c.in_default-stp.not-Cancellation) (ap is_schedule c.from-plain.ensures ∙ c.in-Some.schedule.valid) c.add_calls.ensures.added;
       room = c.add_calls.ensures.room;
       lender = c.add_calls.ensures.lender;
+      grown = c.add_calls.ensures.grown;
       same = c.in_force.ensures.same;
     }

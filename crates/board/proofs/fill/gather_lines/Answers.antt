@@ -5,12 +5,13 @@ use Rattle.timetable.specs.Timetables.{not_before}
 use Rattle.timetable.proofs.Nexts.{left}
 use Rattle.board.specs.Filling.{Trained}
 use Rattle.board.proofs.Boards.{first_of, start, fresh, more, whole, left_all, step, falls, uid_small}
+use Rattle.board.proofs.Rests.{rest_more}
 use Rattle.board.proofs.fill.gather_lines.Goals as goal
 
 pub loop-key-init : goal.loop-key-init
 loop-key-init g c =
     let all = left_all (g.T.Timetable.map c.args.timetable.now) (first_of 0) in
-    (start _ _ _, refl, refl, omega arith, refl)
+    (start _ _ _, refl, refl, omega arith, refl, record { rest = refl; slots = refl })
 
 pub add_train-requires : goal.add_train-requires
 add_train-requires g c =
@@ -51,6 +52,7 @@ loop-key-preserved g c =
       c.add_train.ensures.same ∙ (c.in-Some.ensures.same ∙ c.loop-key.invariant.2),
       omega arith,
       c.add_train.ensures.lender ∙ c.loop-key.invariant.4,
+      rest_more _ _ _ c.loop-key.invariant.5 c.add_train.ensures.grown,
     )
 
 pub returns : goal.returns
@@ -64,5 +66,6 @@ returns g c =
       few = (let n = c.loop-key.invariant.3 in omega arith);
       room = c.loop-key.invariant.1;
       lender = c.loop-key.invariant.4;
+      rest = record { rest = c.loop-key.invariant.5.rest; slots = c.loop-key.invariant.5.slots };
       same = c.in_default.ensures.same ∙ c.loop-key.invariant.2;
     }
