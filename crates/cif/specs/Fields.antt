@@ -28,9 +28,11 @@ last_reference row = last_reference_in (columns 40 46 row)
 abbrev pub coverage_of : List ℕ → Option Coverage
 coverage_of row = coverage_in (byte_at 47 row)
 
+-- the lines of an HD row's fields
 abbrev pub header_lines : List ℕ → List Line
 header_lines row = lacks 33 (current_reference row) ∷ lacks 40 (last_reference row) ∷ lacks 47 (coverage_of row) ∷ []
 
+-- what an HD row holds, or the fault of its leftmost field without its form
 abbrev pub header_in : List ℕ → Result Header ColumnFault
 header_in row =
     then (formed 33 (current_reference row)) (λ c.
@@ -77,7 +79,7 @@ ends_before None to = false
 abbrev pub only_if : Bool → Line → Line
 only_if b l = (l.0, b && l.1)
 
--- in a deletion only columns 3, 4 to 9, 10 to 15 and 80 are read
+-- the lines of a BS row's fields; in a deletion only columns 3, 4 to 9, 10 to 15 and 80 are read
 abbrev pub schedule_lines : List ℕ → List Line
 schedule_lines row =
     lacks 3 (transaction_of row)
@@ -110,6 +112,7 @@ runs_on from (New r) = nat_le from.0 r.to.0
 runs_on from (Revise r) = nat_le from.0 r.to.0
 runs_on from Delete = true
 
+-- what a BS row holds, or its first fault
 abbrev pub schedule_in : List ℕ → Result BasicSchedule ColumnFault
 schedule_in row =
     then (formed 3 (transaction_of row)) (λ t.
@@ -123,9 +126,11 @@ schedule_in row =
 abbrev pub operator_of : List ℕ → Option (List ℕ)
 operator_of row = text_in 2 Labels (columns 12 13 row)
 
+-- the line of a BX row's field
 abbrev pub operator_lines : List ℕ → List Line
 operator_lines row = lacks 12 (operator_of row) ∷ []
 
+-- what a BX row holds
 abbrev pub operator_in : List ℕ → Result (List ℕ) ColumnFault
 operator_in row = formed 12 (operator_of row)
 
@@ -136,17 +141,19 @@ tiploc_of row = tiploc_in (columns 3 9 row)
 abbrev pub suffix_of : List ℕ → Option ℕ
 suffix_of row = suffix_in (byte_at 10 row)
 
+-- the public time from a column on
 abbrev pub time_at : ℕ → List ℕ → Option (Option ℕ)
 time_at first row = time_in (columns first (first + 3) row)
 
+-- the platform from a column on
 abbrev pub platform_at : ℕ → List ℕ → Option (List ℕ)
 platform_at first row = text_in 3 Labels (columns first (first + 2) row)
 
--- LO and LT have one public time
+-- the lines of an LO or LT row's fields, of which one is a public time
 abbrev pub end_lines : List ℕ → List Line
 end_lines row = lacks 3 (tiploc_of row) ∷ lacks 10 (suffix_of row) ∷ lacks 16 (time_at 16 row) ∷ lacks 20 (platform_at 20 row) ∷ []
 
--- LI has two
+-- the lines of an LI row's fields, of which two are
 abbrev pub intermediate_lines : List ℕ → List Line
 intermediate_lines row =
     lacks 3 (tiploc_of row) ∷ lacks 10 (suffix_of row) ∷ lacks 26 (time_at 26 row) ∷ lacks 30 (time_at 30 row) ∷ lacks 34 (platform_at 34 row) ∷ []
@@ -160,6 +167,7 @@ origin_in row =
     then (formed 20 (platform_at 20 row)) (λ p.
     Ok (record { tiploc = t; suffix = s; arrival = None; departure = d; platform = p })))))
 
+-- an intermediate location has both
 abbrev pub intermediate_in : List ℕ → Result Location ColumnFault
 intermediate_in row =
     then (formed 3 (tiploc_of row)) (λ t.

@@ -56,6 +56,7 @@ field_lines LocationDelete row = []
 field_lines Association row = []
 field_lines Trailer row = []
 
+-- the same, and none where the identity is not known
 abbrev pub field_lines_in : Option Identity → List ℕ → List Line
 field_lines_in (Some i) row = field_lines i row
 field_lines_in None row = []

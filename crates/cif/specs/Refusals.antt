@@ -35,6 +35,7 @@ in_row identity fault = record { fault = fault; identity = identity }
 abbrev pub Line : Type 0
 Line = (ColumnFault × Bool)
 
+-- a line, by the refusal and column that it tells
 abbrev pub line : Refusal → ℕ → Bool → Line
 line refusal column holds = (fault_at refusal column, holds)
 
@@ -43,6 +44,7 @@ abbrev pub uppermost : List Line → Option ColumnFault
 uppermost [] = None
 uppermost (l ∷ ls) = cond l.1 (Some l.0) (uppermost ls)
 
+-- whether there is no value
 abbrev pub missing : {X : Type 0} → Option X → Bool
 missing (Some x) = false
 missing None = true

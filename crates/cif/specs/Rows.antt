@@ -30,6 +30,7 @@ abbrev pub named : List Identity → ℕ → ℕ → Option Identity
 named [] a b = None
 named (i ∷ is) a b = cond (a == slice_index (letters_of i) 0 && b == slice_index (letters_of i) 1) (Some i) (named is a b)
 
+-- the identity of two letters, if they are those of one
 abbrev pub identity_of : ℕ → ℕ → Option Identity
 identity_of a b =
     named (Header ∷ BasicSchedule ∷ BasicExtra ∷ Origin ∷ Intermediate ∷ Terminus ∷ ChangeEnRoute ∷ LocationInsert ∷ LocationAmend ∷ LocationDelete ∷ Association ∷ Trailer ∷ []) a b

@@ -28,7 +28,7 @@ pub data Call : Type 0 where
   Tell : ℕ → Call
   Tally : Call
 
--- the lines that a call's row gives, if it has a row
+-- the lines of the table that a call's row gives, if it has a row
 abbrev pub on_row : Call → (List ℕ → List Line) → List Line
 on_row (Open row) lines = lines row
 on_row (Row row) lines = lines row
@@ -69,12 +69,12 @@ abbrev pub value_in : {X E : Type 0} → Result X E → Option X
 value_in (Ok x) = Some x
 value_in (Err e) = None
 
--- the lines on what a row holds, if it can be read
+-- the lines of the table that ask for what a row holds, if it can be read
 abbrev pub held_lines : Standing → Option Content → List Line
 held_lines s (Some c) = content_lines s c
 held_lines s None = []
 
--- the lines on the board: confirm and turn ask for twice as many line slots as the capacity, turn for a station and a day
+-- the lines of the table that ask for the board; with a call that is given none, any number may stand for its line slots
 abbrev pub board_lines : Call → ℕ → ℕ → List Line
 board_lines (Open row) slots capacity = []
 board_lines (Row row) slots capacity = []
@@ -84,7 +84,7 @@ board_lines (Turn station day) slots capacity = turn_lines station day slots cap
 board_lines (Tell place) slots capacity = []
 board_lines Tally slots capacity = []
 
--- the lines of a confirmation: the extract is not complete, or the line slots are too few
+-- those lines of the table that can hold of a confirmation: the extract is not complete, or the line slots are too few
 abbrev pub confirm_lines : Standing → ℕ → List Line
 confirm_lines s slots = line OutOfPlace 0 (not (is_stage s.extract.stage Complete)) ∷ slot_lines slots s.capacity
 
@@ -111,7 +111,7 @@ told_with Tally s f = in_extract 0 (in_row blanks f)
 abbrev pub refusal_of : Call → Standing → ℕ → Option ExtractFault
 refusal_of call s slots = option_map (told_with call s) (uppermost (refusals call s slots))
 
--- a row as raw bytes, step by step: is it a row, is it in place, are its fields in form, does no line hold
+-- the same of a row as it is heard step by step: is it a row, is it in place, are its fields in form, does no line of the table hold
 abbrev pub heard_by : (Stage → Identity → Bool) → Standing → List ℕ → Result Progress RowFault
 heard_by misplaced s row =
     then (raised (in_row blanks) (whole_in row)) (λ i.

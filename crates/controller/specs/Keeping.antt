@@ -32,9 +32,10 @@ state s tally b = record { standing = s; tally = tally; shown = b.shown; lines =
 abbrev pub state_in : {S : Type 0} → (S → List Record) → (S → ℕ) → Controller S → Board → State
 state_in map capacity c b = state (standing_in map capacity c) c.tally b
 
--- controller and board keep to a ledger: each part is what the ledger gives when it is worked out afresh
+-- controller and board keep to a ledger: each part is what the ledger gives when it is worked out afresh; capacity and line slots are in no ledger
 pub record KeepsTo (s : State) (ℓ : Ledger) : Type 0 where
   pub map : s.standing.map ≡ confirmed_map ℓ
+  -- and what is pending fits the store
   pub extract : Agrees s.standing.map s.standing.capacity ℓ.rows s.standing.extract
   pub reference : s.standing.reference ≡ ℓ.reference
   pub tally : s.tally ≡ tally_of ℓ
@@ -44,6 +45,7 @@ pub record KeepsTo (s : State) (ℓ : Ledger) : Type 0 where
   pub pending : every_lawful s.standing.extract.changes ≡ true
   pub confirmed : every_lawful ℓ.confirmed ≡ true
 
+-- whether a call is a confirm
 abbrev pub is_confirm : Call → Bool
 is_confirm (Open row) = false
 is_confirm (Row row) = false

@@ -34,11 +34,11 @@ pub record IsUppermost (ls : List Line) (f : ColumnFault) : Type 0 where
   pub stands : ls ≡ above ++ (f, true) ∷ below
   pub first : none_holds above ≡ true
 
--- a call is turned away exactly when a line of its table holds, and the uppermost is told
+-- what a table tells stands in its uppermost line that holds, and it tells nothing exactly when no line holds
 abbrev pub UppermostIsTold : Type 0
 UppermostIsTold = (ls : List Line) → MatchOption (uppermost ls) (none_holds ls ≡ true) (λ f. IsUppermost ls f)
 
--- rows that neither begin nor end a schedule
+-- rows that neither begin nor end a schedule: all but BS and LT
 abbrev pub is_passing : Identity → Bool
 is_passing Header = true
 is_passing BasicSchedule = false

@@ -1,4 +1,4 @@
-// The calls on a controller.
+// The calls on a controller that are given no board. In what they tell, 0 stands for its line slots.
 ghost use Rattle.std.specs.Prelude.{◌≡◌, ℕ, ◌≤◌, Bool, true, false, List, [], ◌∷◌, ◌++◌, length, is_ok, None};
 ghost use Rattle.cif.specs.Refusals.{fault_of};
 ghost use Rattle.ordered.specs.Tables.{items};

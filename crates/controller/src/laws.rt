@@ -15,7 +15,7 @@ pub fn pending_fits() -> u8
     0
 }
 
-// A call is turned away exactly when a line of its table holds, and the uppermost is told.
+// A table tells its uppermost line that holds, and nothing exactly when no line holds.
 pub fn uppermost_is_told() -> u8
     ensures { UppermostIsTold }
 {

@@ -158,6 +158,7 @@ taken_unless misplaced s i row = cond misplaced (Err (fault_at OutOfPlace 1)) (t
 abbrev pub is_misplaced : Stage → Identity → Bool
 is_misplaced stage i = is_identity i IsHeader || missing (next_stage stage i false)
 
+-- what the call row makes of a row of an identity
 abbrev pub taken_by : Standing → Identity → List ℕ → Result Progress ColumnFault
 taken_by s i row = taken_unless (is_misplaced s.extract.stage i) s i row
 
@@ -165,6 +166,7 @@ taken_by s i row = taken_unless (is_misplaced s.extract.stage i) s i row
 abbrev pub is_no_opening : Stage → Identity → Bool
 is_no_opening stage i = not (is_stage stage Idle && is_identity i IsHeader)
 
+-- what the call open makes of a row of an identity
 abbrev pub opened_by : Standing → Identity → List ℕ → Result Progress ColumnFault
 opened_by s i row = taken_unless (is_no_opening s.extract.stage i) s i row
 

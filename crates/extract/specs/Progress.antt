@@ -47,6 +47,7 @@ asked_by b (AsksNew d) = New (begun_by b d)
 asked_by b (AsksRevise d) = Revise (begun_by b d)
 asked_by b AsksDelete = Delete (key_in b)
 
+-- whether a BS row asks for a deletion
 abbrev pub is_deletion : Asked → Bool
 is_deletion (AsksNew d) = false
 is_deletion (AsksRevise d) = false
@@ -56,6 +57,7 @@ is_deletion AsksDelete = true
 abbrev pub is_brief : BasicSchedule → Bool
 is_brief b = cond (is_deletion b.change) true (is_cancellation b.stp)
 
+-- whether a row is such a BS
 abbrev pub brief_in : Content → Bool
 brief_in (Header h) = false
 brief_in (Schedule b) = is_brief b

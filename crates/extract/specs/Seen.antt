@@ -23,14 +23,15 @@ abbrev pub moved : Progress → Stage → Change → List Change → Progress
 moved p stage draft joining =
     record { stage = stage; taken = p.taken + 1; current = p.current; draft = draft; changes = p.changes ++ joining }
 
--- what a row is judged by
+-- what a row is judged by, for a map, a capacity and what is pending
 abbrev pub judged_at : List Record → ℕ → Extract → List Change → List ℕ → Standing
 judged_at map capacity e changes reference = record { extract = seen e changes; map = map; capacity = capacity; reference = reference }
 
+-- the same over a store, with what is pending over it
 abbrev pub standing : {S : Type 0} → (S → List Record) → (S → ℕ) → Extract → Overlay S → List ℕ → Standing
 standing map capacity e o reference = judged_at (map o.store) (capacity o.store) e (pending_in o.pending) reference
 
--- a BS that was read is in range
+-- the schedule that a BS begins, if it begins one, is in range
 abbrev pub range_in : BasicSchedule → Asked → Bool
 range_in b (AsksNew d) = in_range (begun_by b d)
 range_in b (AsksRevise d) = in_range (begun_by b d)

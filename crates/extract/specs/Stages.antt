@@ -5,7 +5,7 @@ use Rattle.cif.specs.declared.identity.Identity.TheVariants.{Header, BasicSchedu
 use Rattle.extract.specs.declared.stage.Stage.{Stage}
 use Rattle.extract.specs.declared.stage.Stage.TheVariants.{Idle, Between, Begun, Extra, Running, Changed, Complete}
 
--- a number for each stage and identity, by which they are told apart
+-- a number for each stage, by which they are told apart
 abbrev pub stage_number : Stage → ℕ
 stage_number Idle = 0
 stage_number Between = 1
@@ -15,6 +15,7 @@ stage_number Running = 4
 stage_number Changed = 5
 stage_number Complete = 6
 
+-- a number for each identity
 abbrev pub identity_number : Identity → ℕ
 identity_number Header = 0
 identity_number BasicSchedule = 1
@@ -29,9 +30,11 @@ identity_number LocationDelete = 9
 identity_number Association = 10
 identity_number Trailer = 11
 
+-- whether two stages are one
 abbrev pub is_stage : Stage → Stage → Bool
 is_stage a b = stage_number a == stage_number b
 
+-- whether two identities are one
 abbrev pub is_identity : Identity → Identity → Bool
 is_identity a b = identity_number a == identity_number b
 
@@ -58,6 +61,7 @@ steps after_schedule =
     ∷ (Changed, Intermediate, Running)
     ∷ []
 
+-- the stage after a row, by some lines of the table: the first that has the stage and the row
 abbrev pub step_in : List Step → Stage → Identity → Option Stage
 step_in [] s i = None
 step_in (t ∷ ts) s i = cond (is_stage t.0 s && is_identity t.1 i) (Some t.2) (step_in ts s i)

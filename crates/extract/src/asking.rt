@@ -43,6 +43,26 @@ pub(crate) fn is_brief(b: &BasicSchedule) -> bool
     matches!(b.change, Change::Delete) || b.stp == Stp::Cancellation
 }
 
+// The schedule that a BS row begins.
+fn begun(key: Key, days: Running) -> Option<Schedule>
+    ensures { MatchOption result (in_range (begun_with key days.to.0 days.days days.train) ≡ false) (λ s. s.plain ≡ begun_with key days.to.0 days.days days.train) }
+{
+    let Running { to, days, train } = days;
+    Schedule::begun(key, to.0, days, train)
+}
+
+// The transaction that a BS row asks for, if it is in range.
+fn transaction_in(b: &BasicSchedule) -> Option<Transaction>
+    ensures { MatchOption result (range_in b.now b.now.change ≡ false) (λ t. plain_of t ≡ asked_by b.now b.now.change) }
+{
+    let key = key_in(b);
+    match b.change {
+        Change::New(days) => Some(Transaction::New(begun(key, days)?)),
+        Change::Revise(days) => Some(Transaction::Revise(begun(key, days)?)),
+        Change::Delete => Some(Transaction::Delete(key)),
+    }
+}
+
 impl Extract {
     // There is room for a row more that is not ZZ.
     pub(crate) fn has_room(&self) -> Result<(), ColumnFault>
@@ -64,29 +84,7 @@ impl Extract {
         self.has_room()?;
         Ok(called)
     }
-}
 
-// The transaction that a BS row asks for, if it is in range.
-fn transaction_in(b: &BasicSchedule) -> Option<Transaction>
-    ensures { MatchOption result (range_in b.now b.now.change ≡ false) (λ t. plain_of t ≡ asked_by b.now b.now.change) }
-{
-    let key = key_in(b);
-    match b.change {
-        Change::New(days) => Some(Transaction::New(begun(key, days)?)),
-        Change::Revise(days) => Some(Transaction::Revise(begun(key, days)?)),
-        Change::Delete => Some(Transaction::Delete(key)),
-    }
-}
-
-// The schedule that a BS row begins.
-fn begun(key: Key, days: Running) -> Option<Schedule>
-    ensures { MatchOption result (in_range (begun_with key days.to.0 days.days days.train) ≡ false) (λ s. s.plain ≡ begun_with key days.to.0 days.days days.train) }
-{
-    let Running { to, days, train } = days;
-    Schedule::begun(key, to.0, days, train)
-}
-
-impl Extract {
     // Whether a BS row may change its key: a new one is absent, any other is there, and there is room for one more.
     fn may_change<S: Store>(
         &self,

@@ -23,6 +23,7 @@ is_letter c = nat_le 65 c && nat_le c 90
 abbrev pub is_name : ℕ → Bool
 is_name c = is_letter c || is_digit c
 
+-- a blank
 abbrev pub is_blank : ℕ → Bool
 is_blank c = c == 32
 

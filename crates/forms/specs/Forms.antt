@@ -49,6 +49,7 @@ names_then_blanks cs = list_all is_blank (drop (prefix_len is_name cs) cs)
 abbrev pub is_tiploc : List ℕ → Bool
 is_tiploc cs = length cs == 7 && (is_name (slice_index cs 0) && names_then_blanks cs)
 
+-- a TIPLOC, as it stands
 abbrev pub tiploc_in : List ℕ → Option (List ℕ)
 tiploc_in cs = provided (is_tiploc cs) cs
 

@@ -32,12 +32,15 @@ abbrev pub chosen : {X : Type 0} → (X → ℕ) → List X → ℕ → Option X
 chosen letter [] c = None
 chosen letter (x ∷ xs) c = cond (c == letter x) (Some x) (chosen letter xs c)
 
+-- the STP letter's case
 abbrev pub stp_in : ℕ → Option Stp
 stp_in c = chosen stp_letter (Cancellation ∷ ShortTerm ∷ Overlay ∷ Permanent ∷ []) c
 
+-- the transaction letter's case
 abbrev pub transaction_in : ℕ → Option Transaction
 transaction_in c = chosen transaction_letter (New ∷ Revise ∷ Delete ∷ []) c
 
+-- the case of the letter of a full extract or an update
 abbrev pub coverage_in : ℕ → Option Coverage
 coverage_in c = chosen coverage_letter (Full ∷ Update ∷ []) c
 

@@ -44,5 +44,6 @@ abbrev pub last_from : Key → Option Change → List Change → Option Change
 last_from k o [] = o
 last_from k o (c ∷ cs) = last_from k (cond (is_on k c) (Some c) o) cs
 
+-- the last of some transactions on a key, if there is one
 abbrev pub last_on : Key → List Change → Option Change
 last_on k cs = last_from k None cs

@@ -37,7 +37,7 @@ fn settle_all<S: Store>(store: &mut S, changes: &Changes<'_>)
 }
 
 impl<S: Store> Overlay<S> {
-    // Does what is pending to the store, in order; then nothing is pending.
+    // Does what is pending to the store, in order, passing over what finds no room; then nothing is pending.
     pub fn settle(&mut self)
         ensures map { S.Timetable.map self.new.store ≡ tried_all (S.Timetable.capacity self.old.store) (S.Timetable.map self.old.store) (pending_in self.old.pending) }
         ensures capacity { S.Timetable.capacity self.new.store ≡ S.Timetable.capacity self.old.store }

@@ -43,7 +43,7 @@ ledger_at calls answers k = written (new_ledger []) (take k (entries calls answe
 abbrev pub ledger_of : List Asked → List Answer → Ledger
 ledger_of calls answers = written (new_ledger []) (entries calls answers)
 
--- one call of a run, by the ledger of the calls before it: its answer is the ledger's, the ledger gives a board's lines before and after it,
+-- one call of a run, by the ledger of the calls before it: its answer is the ledger's, there are the lines that the ledger gives before and after it,
 -- and around an accepted confirmation, with the lines of the trains that the extract names struck out, these are the same list
 pub record ByLedger (capacity slots : ℕ) (ℓ : Ledger) (call : Call) (answer : Answer) : Type 0 where
   pub told : AnswerOf ℓ capacity slots call answer
@@ -53,7 +53,7 @@ pub record ByLedger (capacity slots : ℕ) (ℓ : Ledger) (call : Call) (answer 
   pub shown_after : LinesOf (stepped ℓ call (is_accepted answer)) after
   pub unnamed : is_confirm call ≡ true → is_accepted answer ≡ true → struck (names (transactions_of ℓ.rows)) before ≡ struck (names (transactions_of ℓ.rows)) after
 
--- each of the first n calls
+-- each of the first n calls of a run goes by the ledger of the calls before it
 abbrev pub FirstCalls : ℕ → ℕ → List Asked → List Answer → ℕ → Type 0
 FirstCalls capacity slots calls answers n =
     (k : ℕ) (call : Asked) (answer : Answer) → k < n → slice_get calls k ≡ Some call → slice_get answers k ≡ Some answer

@@ -7,9 +7,11 @@ use Rattle.forms.specs.declared.letters.Stp.TheVariants.{Cancellation, ShortTerm
 use Rattle.schedule.specs.declared.key.Key.{Key}
 use Rattle.schedule.specs.Keys.{rank_of, key_before}
 
+-- no key is before itself
 pub key_irreflexive : (x : Key) → key_before x x ≡ false
 key_irreflexive x = grind (arith, nat_tests)
 
+-- what is before a key is before all that come after it
 pub key_transitive : (x y z : Key) → key_before x y ≡ true → key_before y z ≡ true → key_before x z ≡ true
 key_transitive x y z p q = grind (arith, nat_tests)
 
@@ -20,6 +22,7 @@ letter_at (suc zero) = ShortTerm
 letter_at (suc (suc zero)) = Overlay
 letter_at (suc (suc (suc n))) = Permanent
 
+-- it is the letter of that rank
 letter_back : (a : Stp) → letter_at (rank_of a) ≡ a
 letter_back Cancellation = refl
 letter_back ShortTerm = refl
@@ -34,6 +37,7 @@ same_rank a b e = sym (letter_back a) ∙ (ap letter_at e ∙ letter_back b)
 parts : (x y : Key) → key_before x y ≡ false → key_before y x ≡ false → (x.uid ≡ y.uid) × (x.from ≡ y.from) × (rank_of x.stp ≡ rank_of y.stp)
 parts x y p q = (grind (arith, nat_tests), grind (arith, nat_tests), grind (arith, nat_tests))
 
+-- of two different keys one is before the other
 pub key_total : (x y : Key) → key_before x y ≡ false → key_before y x ≡ false → x ≡ y
 key_total x y p q =
     let h = parts x y p q in

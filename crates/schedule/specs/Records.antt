@@ -34,12 +34,15 @@ abbrev pub no_time : Option ℕ → Bool
 no_time (Some minute) = false
 no_time None = true
 
+-- no operator
 abbrev pub two_blanks : List ℕ
 two_blanks = 32 ∷ 32 ∷ []
 
+-- no platform
 abbrev pub three_blanks : List ℕ
 three_blanks = 32 ∷ 32 ∷ 32 ∷ []
 
+-- no TIPLOC, or no file reference
 abbrev pub seven_blanks : List ℕ
 seven_blanks = 32 ∷ 32 ∷ 32 ∷ 32 ∷ 32 ∷ 32 ∷ 32 ∷ []
 
@@ -67,6 +70,7 @@ blank_record =
       count = 0;
     }
 
+-- whether a letter is C
 abbrev pub is_cancellation : Stp → Bool
 is_cancellation Cancellation = true
 is_cancellation ShortTerm = false
