@@ -162,7 +162,8 @@ fields_late LocationDelete row = tt
 fields_late Association row = tt
 fields_late Trailer row = tt
 
-abbrev whole_of : Bool → Option ℕ → Option Identity → Result Identity ColumnFault
+-- the identity of a row that is whole, by its three tests
+abbrev pub whole_of : Bool → Option ℕ → Option Identity → Result Identity ColumnFault
 whole_of long bad id =
     cond long
     (elim bad [ Some column ↦ Err (fault_at BadByte column) | None ↦ elim id [ Some i ↦ Ok i | None ↦ Err (fault_at UnknownIdentity 1) ] ])

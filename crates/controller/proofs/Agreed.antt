@@ -11,6 +11,7 @@ use Rattle.cif.specs.Refusals.{missing, then, raised, in_row, uppermost}
 use Rattle.cif.specs.Rows.{whole_in}
 use Rattle.cif.specs.Fields.{header_in, schedule_in, operator_in, origin_in, intermediate_in, terminus_in}
 use Rattle.cif.specs.Reading.{letters_in, blanks, content_in}
+use Rattle.cif.proofs.Results.{ok_is, err_ok}
 use Rattle.schedule.specs.Transactions.{every_lawful}
 use Rattle.timetable.specs.Timetables.{IsMap}
 use Rattle.extract.specs.declared.stage.Stage.{Stage}
@@ -21,12 +22,6 @@ use Rattle.controller.specs.Calls.{heard_by}
 use Rattle.controller.specs.Agreeing.{Fits, Agrees}
 use Rattle.controller.proofs.Heard.{heard_after}
 use Rattle.controller.proofs.Fitting.{is_sound, fits_after}
-
-ok_is : {X E : Type 0} (r : Result X E) (x y : X) → r ≡ Ok x → r ≡ Ok y → x ≡ y
-ok_is r x y p q = cc
-
-err_ok : {X E : Type 0} {P : Type 0} (r : Result X E) (x : X) (e : E) → r ≡ Err e → r ≡ Ok x → P
-err_ok r x e p q = let z : ◌≡◌ {A = ℕ} 0 1 = cc in absurd (let w : ⊥ = omega arith in w)
 
 -- what a row of an identity can hold
 abbrev Sound : Identity → Content → Type 0

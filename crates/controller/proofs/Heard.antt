@@ -1,5 +1,5 @@
 -- A row that is heard step by step is turned away by the uppermost line of the table, and otherwise does what its bytes say.
-use Rattle.std.proofs.Common.{◌≡◌, ℕ, Bool, true, false, cond, not, eqb, List, [], ◌∷◌, ◌++◌, length, Some, None, Ok, Err, Option, Result, sym, refl, ap, ◌∙◌, subst, append-nil, arith}
+use Rattle.std.proofs.Common.{◌≡◌, ℕ, Bool, true, false, not, eqb, List, [], ◌∷◌, ◌++◌, length, Some, None, Ok, Err, Option, Result, sym, refl, ap, ◌∙◌, subst, append-nil, arith}
 use Rattle.std.specs.Option.{option_map}
 use Rattle.cif.specs.declared.content.Content.{Content}
 use Rattle.cif.specs.declared.content.Content.TheVariants.{Header, Schedule, Operator, Origin, Intermediate, Terminus, Unread}
@@ -8,10 +8,11 @@ use Rattle.cif.specs.declared.identity.Identity.{Identity}
 use Rattle.cif.specs.declared.refusal.Refusal.TheVariants.{RowLength, BadByte, UnknownIdentity, OutOfPlace}
 use Rattle.cif.specs.declared.refusal.ColumnFault.{ColumnFault}
 use Rattle.cif.specs.declared.refusal.RowFault.{RowFault}
-use Rattle.cif.specs.Refusals.{fault_at, in_row, Line, line, uppermost, missing, then, raised, fault_of}
+use Rattle.cif.specs.Refusals.{in_row, Line, line, uppermost, missing, then, raised, fault_of}
 use Rattle.cif.specs.Rows.{identity_in, first_bad, column_or0, whole_in}
 use Rattle.cif.specs.Reading.{letters_in, blanks, content_in, read_in, field_lines, field_lines_in, told_in}
-use Rattle.cif.proofs.Tables.{content_told, raised_told, Late, late_told, fields_late}
+use Rattle.cif.proofs.Results.{ok_is, err_ok}
+use Rattle.cif.proofs.Tables.{whole_of, content_told, raised_told, Late, late_told, fields_late}
 use Rattle.schedule.specs.declared.transaction.Change.{Change}
 use Rattle.schedule.specs.declared.transaction.Change.TheVariants.{New, Revise, Delete}
 use Rattle.schedule.specs.Building.{bringing_lines}
@@ -74,12 +75,6 @@ module _ (misplaced : Stage → Identity → Bool) (s : Standing) (row : List �
       (line RowLength 0 (not long) ∷ line BadByte (column_or0 bad) (not (missing bad)) ∷ line UnknownIdentity 1 (missing id) ∷ [])
       ++ (line OutOfPlace 1 (misfits misplaced s.extract.stage id) ∷ (field_lines_in id row ++ (held_lines s held ++ [])))
 
-  abbrev whole_of : Bool → Option ℕ → Option Identity → Result Identity ColumnFault
-  whole_of long bad id =
-      cond long
-      (elim bad [ Some column ↦ Err (fault_at BadByte column) | None ↦ elim id [ Some i ↦ Ok i | None ↦ Err (fault_at UnknownIdentity 1) ] ])
-      (Err (fault_at RowLength 0))
-
   abbrev read_of : Result Identity ColumnFault → Result Content RowFault
   read_of whole = then (raised (in_row blanks) whole) (λ i. raised (in_row (letters_in row)) (content_in i row))
 
@@ -106,12 +101,6 @@ module _ (misplaced : Stage → Identity → Bool) (s : Standing) (row : List �
   pub heard_after : (p : Progress) → heard_by misplaced s row ≡ Ok p → p ≡ after_row s.extract row
   heard_after p h = at (whole_in row) h
     where
-      ok_is : {X E : Type 0} (r : Result X E) (x y : X) → r ≡ Ok x → r ≡ Ok y → x ≡ y
-      ok_is r x y p q = cc
-
-      err_ok : {X E : Type 0} {P : Type 0} (r : Result X E) (x : X) (e : E) → r ≡ Err e → r ≡ Ok x → P
-      err_ok r x e p q = let z : ◌≡◌ {A = ℕ} 0 1 = cc in absurd (let w : ⊥ = omega arith in w)
-
       judge : (c : Content) (o : Option ColumnFault) → raised (in_row (letters_in row)) (elim o [ Some f ↦ Err f | None ↦ Ok (after s.extract c) ]) ≡ Ok p → p ≡ after s.extract c
       judge c (Some f) h = err_ok _ p _ refl h
       judge c None h = ok_is _ p (after s.extract c) h refl

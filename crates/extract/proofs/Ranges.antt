@@ -19,13 +19,8 @@ use Rattle.cif.specs.declared.refusal.Refusal.TheVariants.{EndsBeforeStart}
 use Rattle.cif.specs.declared.refusal.ColumnFault.{ColumnFault}
 use Rattle.cif.specs.Refusals.{fault_at, formed, then}
 use Rattle.cif.specs.Fields.{transaction_of, uid_of, from_of, to_of, days_of, train_of, stp_of, running_in, change_in, runs_on, schedule_in}
+use Rattle.cif.proofs.Results.{ok_is, err_ok}
 use Rattle.extract.specs.Seen.{range_in}
-
-err_ok : {X E : Type 0} (r : Result X E) (x : X) (e : E) → r ≡ Err e → r ≡ Ok x → ⊥
-err_ok r x e p q = let z : ◌≡◌ {A = ℕ} 0 1 = cc in omega arith
-
-ok_is : {X E : Type 0} (r : Result X E) (x y : X) → r ≡ Ok x → r ≡ Ok y → x ≡ y
-ok_is r x y p q = cc
 
 -- digits after n write a number of so many places
 number_below : (n : ℕ) (cs : List ℕ) (x : ℕ) → number_after n cs ≡ Some x → x < (n + 1) * 10 ^ length cs
