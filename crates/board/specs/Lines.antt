@@ -17,6 +17,7 @@ line_before a b =
     nat_lt a.minute b.minute
     || (a.minute == b.minute && (nat_lt a.uid b.uid || (a.uid == b.uid && nat_lt a.place b.place)))
 
+-- the key of a line
 abbrev pub line_key : Line → LineKey
 line_key l = l.key
 

@@ -1,4 +1,4 @@
--- Worked cases: the table of cases of all layers so far.
+-- Worked cases: those of the fields, and a worked week.
 use Rattle.std.specs.Prelude.{ℕ, Bool, true, false, List, [], ◌∷◌}
 use Rattle.forms.specs.declared.letters.Stp.{Stp}
 use Rattle.forms.specs.declared.letters.Stp.TheVariants.{Cancellation, ShortTerm, Overlay, Permanent}
@@ -10,6 +10,7 @@ use Rattle.running.specs.Running.{Candidate, InForce}
 abbrev pub weekdays : List Bool
 weekdays = true ∷ true ∷ true ∷ true ∷ true ∷ false ∷ false ∷ []
 
+-- Wednesday alone
 abbrev pub wednesdays : List Bool
 wednesdays = false ∷ false ∷ true ∷ false ∷ false ∷ false ∷ false ∷ []
 
@@ -28,16 +29,18 @@ overlay = run Overlay 23439 23443 weekdays
 abbrev pub cancelled : Record
 cancelled = run Cancellation 23441 23441 wednesdays
 
+-- the map of these three
 abbrev pub week : List Record
 week = permanent ∷ overlay ∷ cancelled ∷ []
 
--- a second permanent schedule that begins later, and a new short_term train over the overlay's days
+-- a second permanent schedule that begins later, and a new short-term train over the overlay's days
 abbrev pub later : Record
 later = run Permanent 23432 23527 weekdays
 
 abbrev pub short : Record
 short = run ShortTerm 23439 23443 weekdays
 
+-- the table of worked cases
 pub record Worked : Type 0 where
   pub fields : Fields
   pub monday : InForce week 212345 23439 overlay
