@@ -1,31 +1,26 @@
 -- A walk over the trains of a map that fills in a board.
-use Rattle.std.proofs.Common.{◌≡◌, ℕ, ◌+◌, ◌<◌, ◌≤◌, true, false, ltb, List, [], ◌∷◌, length, Some, None, Option, sym, refl, ap, ◌∙◌, subst, ⊎_elim, arith}
-use Rattle.std.proofs.lemmas.Bool.{and_parts, ltb-true, both_ways, cases_Bool, cases_lt, cases_order}
+use Rattle.std.proofs.Common.{◌≡◌, ℕ, ◌+◌, ◌<◌, ◌≤◌, true, false, List, [], ◌∷◌, length, Some, None, Option, sym, refl, ap, ◌∙◌, ⊎_elim, arith}
+use Rattle.std.proofs.lemmas.Bool.{both_ways, cases_Bool, cases_lt, cases_order}
 use Rattle.std.proofs.lemmas.Bool.Decides.{nat_tests}
-use Rattle.forms.specs.declared.letters.Stp.TheVariants.{Cancellation}
 use Rattle.maps.specs.Maps.{ascending, lookup, gathered, apart}
 use Rattle.maps.proofs.Maps.{same_maps, ascending_gathered, lookup_gathered}
 use Rattle.maps.proofs.Heaped.{length_gathered}
 use Rattle.schedule.specs.declared.key.Key.{Key}
 use Rattle.schedule.specs.declared.record.Record.{Record}
 use Rattle.schedule.specs.Keys.{key_before}
-use Rattle.schedule.specs.Records.{key_of, in_range}
+use Rattle.schedule.specs.Records.{key_of}
 use Rattle.timetable.specs.Timetables.{not_before, IsMap}
-use Rattle.timetable.proofs.Nexts.{Next, next, all_before, has_held, found_key, left, left_falls, moves_on}
-use Rattle.timetable.proofs.Valid.{found_valid}
-use Rattle.running.specs.Running.{Holds}
+use Rattle.timetable.proofs.Nexts.{next, all_before, left, walk_falls}
+use Rattle.running.specs.Running.{Holds, first_of, IsFirst}
 use Rattle.running.proofs.Forces.{none_some}
+use Rattle.running.proofs.Trains.{own, first_there, still_next}
 use Rattle.running.proofs.Walks.{held_has}
 use Rattle.board.specs.declared.line.LineKey.{LineKey}
 use Rattle.board.specs.declared.line.Line.{Line}
 use Rattle.board.specs.Lines.{line_before, line_key, IsLine, BoardOf, BoardIsOne}
-use Rattle.board.specs.Filling.{Fresh, UpTo, Trained, AllLines}
+use Rattle.board.specs.Filling.{Fresh, Earlier, StartsTrain, UpTo, Trained, AllLines}
 use Rattle.board.specs.LineOrders.{line_lawful}
 use Rattle.board.proofs.Adds.{on_key}
-
--- the first key that a train can have
-abbrev pub first_of : ℕ → Key
-first_of uid = record { uid = uid; from = 0; stp = Cancellation }
 
 before_train : (k : Key) (u : ℕ) → key_before k (first_of u) ≡ true → k.uid < u
 before_train k u h = grind (arith, nat_tests)
@@ -42,51 +37,65 @@ from_train k u h = ⊎_elim (λ l. absurd (both_ways (key_before k (first_of u))
 lower_uid : (a b : Key) → a.uid < b.uid → key_before a b ≡ true
 lower_uid a b l = grind (arith, nat_tests)
 
-pub start : (m : List Record) (station : List ℕ) (day : ℕ) → UpTo m station day 0 []
-start m station day = record { only = λ l o. absurd (none_some l o); every = λ l i h. absurd (omega arith); distinct = refl }
-
 line_held : (m : List Record) (station : List ℕ) (day : ℕ) (l : Line) → (i : IsLine m station day l) → Holds m i.schedule
 line_held m station day l i = i.force.candidate.there
 
-module _ (m : List Record) (station : List ℕ) (day u : ℕ) (key : Key) (n : Next m (first_of u) key) where
-  pub reached : u ≤ key.uid
-  reached = from_train key u n.past
+-- where a train begins, what was asked is the first key from it on
+pub starts : (m : List Record) (u : ℕ) (o : Option Key) → IsMap m → o ≡ not_before m (first_of u) → StartsTrain m o
+starts m u None is e = tt
+starts m u (Some k) is e =
+    let n = next m (first_of u) k is (sym e) in
+    let r = from_train k u n.past in
+    still_next (first_of u) (first_of k.uid) (λ q b. let l = before_train q u b in lower_uid q (first_of k.uid) (omega arith)) m k (sym e) (not_before_train k k.uid (omega arith))
 
-  -- no train lies between the probe's and the next key's
-  gap : (l : Line) → IsLine m station day l → u ≤ l.key.uid → l.key.uid < key.uid → ⊥
-  gap l i a b =
-      let e = i.force.candidate.train in
-      both_ways (key_before (key_of i.schedule) key)
-      (n.least (key_of i.schedule) (held_has m i.schedule (line_held m station day l i)) (not_before_train (key_of i.schedule) u (omega arith)))
-      (lower_uid (key_of i.schedule) key (omega arith))
+-- a line of a train that is asked for from a number on is of the next key's train or of a later one
+pub not_between : (m : List Record) (station : List ℕ) (day u : ℕ) (o : Option Key) → IsMap m → o ≡ not_before m (first_of u) → (l : Line) → IsLine m station day l → u ≤ l.key.uid → Earlier o l.key.uid → ⊥
+not_between m station day u None is e l i a b =
+    let t = i.force.candidate.train in
+    let q = before_train (key_of i.schedule) u (all_before m (first_of u) is (sym e) (key_of i.schedule) (held_has m i.schedule (line_held m station day l i))) in
+    omega arith
+not_between m station day u (Some k) is e l i a b =
+    let t = i.force.candidate.train in
+    let n = next m (first_of u) k is (sym e) in
+    both_ways (key_before (key_of i.schedule) k)
+    (n.least (key_of i.schedule) (held_has m i.schedule (line_held m station day l i)) (not_before_train (key_of i.schedule) u (omega arith)))
+    (lower_uid (key_of i.schedule) k (omega arith))
 
-  module _ (xs : List Line) (w : UpTo m station day u xs) where
-    pub fresh : Fresh xs key.uid
-    fresh l o e = let b = (w.only l o).1 in let r = reached in omega arith
+-- a train before the number is earlier than the next key's
+earlier : (m : List Record) (u uid : ℕ) (o : Option Key) → IsMap m → o ≡ not_before m (first_of u) → uid < u → Earlier o uid
+earlier m u uid None is e l = tt
+earlier m u uid (Some k) is e l = let r = from_train k u (next m (first_of u) k is (sym e)).past in omega arith
 
-    pub more : (ys : List Line) → Trained m station day key.uid xs ys → UpTo m station day (key.uid + 1) ys
-    more ys t = record {
-      only = λ l o. ⊎_elim (λ x. let h = w.only l x in (h.0, let b = h.1 in let r = reached in omega arith)) (λ h. (h.0, let e = h.1 in omega arith)) (t.only l o);
-      every = λ l i b. ⊎_elim
-          (λ (e : l.key.uid ≡ key.uid). t.every l i e)
-          (λ d. ⊎_elim
-          (λ (below : l.key.uid < key.uid). ⊎_elim (λ (old : l.key.uid < u). t.kept l (w.every l i old)) (λ (past : u ≤ l.key.uid). absurd (gap l i past below)) (cases_lt l.key.uid u))
-          (λ above. absurd (omega arith))
-          d)
-          (cases_order l.key.uid key.uid);
-      distinct = t.distinct w.distinct;
-    }
+pub start : (m : List Record) (station : List ℕ) (day : ℕ) (o : Option Key) → IsMap m → o ≡ not_before m (first_of 0) → UpTo m station day o []
+start m station day o is e = record {
+  only = λ l on. absurd (none_some l on);
+  every = λ l i b. absurd (not_between m station day 0 o is e l i (omega arith) b);
+  distinct = refl;
+}
+
+module _ (m : List Record) (station : List ℕ) (day : ℕ) (key : Key) (is : IsMap m) (xs : List Line) (w : UpTo m station day (Some key) xs) where
+  pub fresh : Fresh xs key.uid
+  fresh l o e = let b = (w.only l o).1 in omega arith
+
+  pub more : (ys : List Line) (o : Option Key) → o ≡ not_before m (first_of (key.uid + 1)) → Trained m station day key.uid xs ys → UpTo m station day o ys
+  more ys o asked t = record {
+    only = λ l on. ⊎_elim
+        (λ x. let h = w.only l x in (h.0, let b = h.1 in earlier m (key.uid + 1) l.key.uid o is asked (omega arith)))
+        (λ h. (h.0, let e = h.1 in earlier m (key.uid + 1) l.key.uid o is asked (omega arith)))
+        (t.only l on);
+    every = λ l i b. ⊎_elim
+        (λ (e : l.key.uid ≡ key.uid). t.every l i e)
+        (λ d. ⊎_elim
+        (λ (below : l.key.uid < key.uid). t.kept l (w.every l i below))
+        (λ above. absurd (not_between m station day (key.uid + 1) o is asked l i (omega arith) b))
+        d)
+        (cases_order l.key.uid key.uid);
+    distinct = t.distinct w.distinct;
+  }
 
 -- at the end all lines are there
-pub whole : (m : List Record) (station : List ℕ) (day u : ℕ) (ys : List Line) → IsMap m → None ≡ not_before m (first_of u) → UpTo m station day u ys → AllLines m station day ys
-whole m station day u ys is none w = record {
-  only = λ l o. (w.only l o).0;
-  every = λ l i.
-      let e = i.force.candidate.train in
-      let b = before_train (key_of i.schedule) u (all_before m (first_of u) is (sym none) (key_of i.schedule) (held_has m i.schedule (line_held m station day l i))) in
-      w.every l i (omega arith);
-  distinct = w.distinct;
-}
+pub whole : (m : List Record) (station : List ℕ) (day : ℕ) (ys : List Line) → UpTo m station day None ys → AllLines m station day ys
+whole m station day ys w = record { only = λ l o. (w.only l o).0; every = λ l i. w.every l i tt; distinct = w.distinct }
 
 -- all lines in the order of their keys are the board
 pub board_of : (m : List Record) (station : List ℕ) (day : ℕ) (ys zs : List Line) → AllLines m station day ys → (apart line_before line_key ys ≡ true → zs ≡ gathered line_before line_key ys) → BoardOf m station day zs
@@ -111,20 +120,27 @@ left_all (r ∷ rs) probe =
     let rest = left_all rs probe in
     ⊎_elim (λ (t : key_before (key_of r) probe ≡ true). rw t (omega arith)) (λ (f : key_before (key_of r) probe ≡ false). rw f (omega arith)) (cases_Bool (key_before (key_of r) probe))
 
-module _ (m : List Record) (is : IsMap m) (u : ℕ) (key : Key) (value : Some key ≡ not_before m (first_of u)) where
-  pub step : Next m (first_of u) key
-  step = next m (first_of u) key is (sym value)
+abbrev pub left_from : List Record → Option Key → ℕ
+left_from m None = 0
+left_from m (Some k) = left m k
 
-  pub falls : left m (first_of (key.uid + 1)) < left m (first_of u)
-  falls =
-      let later = lower_uid key (first_of (key.uid + 1)) (omega arith) in
-      left_falls (first_of u) (first_of (key.uid + 1)) (moves_on (first_of u) key (first_of (key.uid + 1)) step.past later) m key step.there step.past later
+pub left_from_all : (m : List Record) (o : Option Key) → left_from m o ≤ length m
+left_from_all m None = omega arith
+left_from_all m (Some k) = left_all m k
 
-  pub uid_small : key.uid < 2600000
-  uid_small =
-      has_held m key (key.uid < 2600000) step.there
-      (λ h e. subst (λ (k : Key). k.uid < 2600000) (found_key m key h e)
-      (ltb-true h.key.uid 2600000 (and_parts (ltb h.key.uid 2600000) _ (and_parts (in_range h) _ (found_valid m key h is.schedules (sym e))).0).0))
+-- a train that begins has a key that is left
+pub some_left : (m : List Record) (is : IsMap m) (key : Key) → IsFirst m key → 0 < left m key
+some_left m is key f =
+    let n = own m key (first_there m key is f) in
+    let less = walk_falls m is key key n (first_of (key.uid + 1)) (lower_uid key (first_of (key.uid + 1)) (omega arith)) in
+    omega arith
+
+-- it falls from train to train
+pub falls : (m : List Record) (is : IsMap m) (key : Key) (o : Option Key) → IsFirst m key → o ≡ not_before m (first_of (key.uid + 1)) → left_from m o < left m key
+falls m is key None f e = some_left m is key f
+falls m is key (Some k) f e =
+    let r = from_train k (key.uid + 1) (next m (first_of (key.uid + 1)) k is (sym e)).past in
+    walk_falls m is key key (own m key (first_there m key is f)) k (lower_uid key k (omega arith))
 
 -- the rules of a board leave no choice of its lines
 line_of : (xs : List Line) (k : LineKey) (P : Type 0) → ((l : Line) → lookup line_before line_key xs k ≡ Some l → P) → (lookup line_before line_key xs k ≡ None → P) → P

@@ -1,10 +1,12 @@
 -- How a board's lines are filled in, call by call and train by train, in any order.
-use Rattle.std.specs.Prelude.{◌≡◌, ℕ, ◌+◌, ◌<◌, ◌≤◌, true, ◌⊎◌, List, length, take, Some, ◌≢◌}
+use Rattle.std.specs.Prelude.{◌≡◌, ℕ, ◌+◌, ◌<◌, ◌≤◌, true, ◌⊎◌, List, length, take, Some, None, Option, ◌≢◌}
 use Rattle.maps.specs.Maps.{apart}
 use Rattle.ordered.specs.declared.slots.Slots.{Slots}
 use Rattle.ordered.specs.Tables.{RestKept}
+use Rattle.schedule.specs.declared.key.Key.{Key}
 use Rattle.schedule.specs.declared.record.Record.{Record}
 use Rattle.schedule.specs.Records.{visits}
+use Rattle.running.specs.Running.{IsFirst}
 use Rattle.board.specs.declared.line.Line.{Line}
 use Rattle.board.specs.Lines.{line_before, line_key, On, line_at, IsLine}
 
@@ -20,10 +22,20 @@ pub record Added (station : List ℕ) (r : Record) (p : ℕ) (xs ys : List Line)
 abbrev pub Fresh : List Line → ℕ → Type 0
 Fresh xs uid = (l : Line) → On xs l → l.key.uid ≢ uid
 
--- the lines of the trains whose UID number is below u, and no other
-pub record UpTo (m : List Record) (station : List ℕ) (day u : ℕ) (ys : List Line) : Type 0 where
-  pub only : (l : Line) → On ys l → IsLine m station day l × (l.key.uid < u)
-  pub every : (l : Line) → IsLine m station day l → l.key.uid < u → On ys l
+-- a UID number is that of a train before the next key's, if there is one
+abbrev pub Earlier : Option Key → ℕ → Type 0
+Earlier (Some next) uid = uid < next.uid
+Earlier None uid = Unit {0}
+
+-- the next key, if there is one, is the first one of its train
+abbrev pub StartsTrain : List Record → Option Key → Type 0
+StartsTrain m (Some next) = IsFirst m next
+StartsTrain m None = Unit {0}
+
+-- the lines of the trains before the next key's, and no other
+pub record UpTo (m : List Record) (station : List ℕ) (day : ℕ) (next : Option Key) (ys : List Line) : Type 0 where
+  pub only : (l : Line) → On ys l → IsLine m station day l × Earlier next l.key.uid
+  pub every : (l : Line) → IsLine m station day l → Earlier next l.key.uid → On ys l
   pub distinct : apart line_before line_key ys ≡ true
 
 -- the lines of xs and those of one train, and no other; a train has at most two

@@ -2,6 +2,8 @@
 ghost use Rattle.std.specs.Prelude.{◌≡◌, ℕ, ◌+◌, ◌*◌, ◌<◌, ◌≤◌, Bool, true, false, List, length, take};
 ghost use Rattle.ordered.specs.Tables.{items, room, RestKept};
 ghost use Rattle.schedule.specs.Records.{is_at, visits};
+ghost use Rattle.timetable.specs.Timetables.{not_before};
+ghost use Rattle.running.specs.Running.{first_of, IsFirst};
 ghost use Rattle.board.specs.declared.line.Line.{Line};
 ghost use Rattle.board.specs.Lines.{no_call, call_at, line_at, BoardOf};
 ghost use Rattle.board.specs.Filling.{Added, Fresh, Trained, AllLines, Grown};
@@ -11,7 +13,7 @@ use crate::line::{Line, LineKey};
 use forms::letters::Stp;
 use ordered::ordered::Ordered;
 use ordered::slots::Slots;
-use running::force::in_force;
+use running::force::{Walk, first_of};
 use schedule::check::is_at;
 use schedule::key::Key;
 use schedule::record::Record;
@@ -76,29 +78,34 @@ pub(crate) fn add_calls(lines: &mut Slots<'_, Line>, plain: &Record, station: &[
     }
 }
 
-// Adds the lines of a train: those of its schedule in force, unless there is none or it is a cancellation.
+// Adds the lines of a train, of which the first key is given: those of its schedule in force, unless there is none or it is a
+// cancellation. Answers the first key of the next train.
 fn add_train<T: Timetable>(
     timetable: &mut T,
     lines: &mut Slots<'_, Line>,
-    uid: u32,
+    first: Key,
     shown: &StationDay,
-)
+    walk: &mut Walk,
+) -> Option<Key>
     requires room { length (items lines.old) + 2 ≤ room lines.old }
-    requires fresh { Fresh (items lines.old) uid }
-    ensures trained { Trained (T.Timetable.map timetable.old) shown.now.station shown.now.day uid (items lines.old) (items lines.new) }
+    requires fresh { Fresh (items lines.old) first.uid }
+    requires first { IsFirst (T.Timetable.map timetable.old) first }
+    ensures trained { Trained (T.Timetable.map timetable.old) shown.now.station shown.now.day first.uid (items lines.old) (items lines.new) }
+    ensures next { result ≡ not_before (T.Timetable.map timetable.old) (first_of (first.uid + 1)) }
     ensures grown { Grown lines.old lines.new }
     ensures room { room lines.new ≡ room lines.old }
     ensures lender { lines.new.slots.ghost_name ≡ lines.old.slots.ghost_name }
     ensures same { timetable.new ≡ timetable.old }
 {
-    let Some(schedule) = in_force(timetable, uid, shown.day) else {
-        return;
-    };
-    let plain = Record::from(schedule);
-    match plain.key.stp {
-        Stp::Cancellation => {}
-        _ => add_calls(lines, &plain, &shown.station),
+    let next = walk.train(timetable, first, shown.day);
+    if let Some(schedule) = &walk.best {
+        let plain = schedule.record();
+        match plain.key.stp {
+            Stp::Cancellation => {}
+            _ => add_calls(lines, plain, &shown.station),
+        }
     }
+    next
 }
 
 // Gathers the lines of a station and day in any order, train by train.
@@ -112,14 +119,10 @@ fn gather_lines<T: Timetable>(timetable: &mut T, lines: &mut Slots<'_, Line>, sh
     ensures same { timetable.new ≡ timetable.old }
 {
     lines.len = 0;
-    let mut uid: u32 = 0;
-    while let Some(key) = timetable.not_before(Key {
-        uid,
-        from: 0,
-        stp: Stp::Cancellation,
-    }) {
-        add_train(timetable, lines, key.uid, shown);
-        uid = key.uid + 1;
+    let mut walk = Walk::new();
+    let mut next = timetable.not_before(first_of(0));
+    while let Some(first) = next {
+        next = add_train(timetable, lines, first, shown, &mut walk);
     }
 }
 

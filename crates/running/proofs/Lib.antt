@@ -1,4 +1,5 @@
 pub mod Forces
 pub mod Tests
+pub mod Trains
 pub mod Turns
 pub mod Walks

@@ -2,11 +2,13 @@
 use Rattle.std.specs.Prelude.{◌≡◌, ℕ, ◌<◌, ◌≤◌, Bool, true, false, ◌&&◌, ◌||◌, ◌⊎◌, List, get_or, Some, None, Option, ◌==◌, nat_le, nat_lt, slice_index_or}
 use Rattle.std.specs.Option.{option_map}
 use Rattle.calendar.specs.Calendar.{weekday}
+use Rattle.forms.specs.declared.letters.Stp.TheVariants.{Cancellation}
+use Rattle.schedule.specs.declared.key.Key.{Key}
 use Rattle.schedule.specs.declared.record.Record.{Record}
 use Rattle.schedule.specs.declared.schedule.Schedule.{Schedule}
 use Rattle.schedule.specs.Keys.{rank_of}
 use Rattle.schedule.specs.Records.{key_of}
-use Rattle.timetable.specs.Timetables.{schedule_of}
+use Rattle.timetable.specs.Timetables.{schedule_of, not_before}
 
 -- a schedule of the map
 abbrev pub Holds : List Record → Record → Type 0
@@ -45,3 +47,11 @@ takes here day (Some best) = covering here day && outranking here best
 -- the record of a schedule, if there is one
 abbrev pub held : Option Schedule → Option Record
 held o = option_map (λ (s : Schedule). s.plain) o
+
+-- the least key that a train can have
+abbrev pub first_of : ℕ → Key
+first_of uid = record { uid = uid; from = 0; stp = Cancellation }
+
+-- a key is the first one of its train in a map
+abbrev pub IsFirst : List Record → Key → Type 0
+IsFirst m key = not_before m (first_of key.uid) ≡ Some key

@@ -1,8 +1,8 @@
 // Which schedule of a train is in force.
-ghost use Rattle.std.specs.Prelude.{◌≡◌, Some, MatchOption, if◌then◌else◌};
+ghost use Rattle.std.specs.Prelude.{◌≡◌, ◌+◌, None, Some, MatchOption, if◌then◌else◌};
 ghost use Rattle.schedule.specs.declared.record.Record.{Record};
-ghost use Rattle.timetable.specs.Timetables.{schedule_of};
-ghost use Rattle.running.specs.Running.{Candidate, InForce, covering, outranking, takes, held};
+ghost use Rattle.timetable.specs.Timetables.{schedule_of, not_before};
+ghost use Rattle.running.specs.Running.{Candidate, InForce, covering, outranking, takes, held, first_of, IsFirst};
 
 use forms::letters::Stp;
 use schedule::key::Key;
@@ -29,35 +29,71 @@ fn outranks(here: &Record, best: &Record) -> bool
 }
 
 // Whether a schedule covers a day and outranks the best so far, if there is one.
-fn takes_place(here: &Record, day: u16, best: &Option<Record>) -> bool
-    ensures { result ≡ takes here.now day best.now }
+fn takes_place(here: &Record, day: u16, best: &Option<Schedule>) -> bool
+    ensures { result ≡ takes here.now day (held best.now) }
 {
     covers(here, day)
         && match best {
-            Some(best) => outranks(here, best),
+            Some(best) => outranks(here, best.record()),
             None => true,
         }
 }
 
-// Looks at the schedule of a key: the best is then that one, or as before.
-fn consider<T: Timetable>(
-    timetable: &mut T,
-    key: Key,
-    day: u16,
-    best: Option<Schedule>,
-) -> Option<Schedule>
-    ensures best { (h : Record) → schedule_of (T.Timetable.map timetable.old) key ≡ Some h → held result ≡ (if takes h day (held best) then Some h else held best) }
-    ensures same { timetable.new ≡ timetable.old }
-{
-    let mut here = Schedule::blank();
-    if !timetable.find(key, &mut here) {
-        return best;
+// A walk over the schedules of a train: the best so far, if there is one, and a place to look at another in.
+#[derive(Clone, Copy, Debug)]
+pub struct Walk {
+    pub best: Option<Schedule>,
+    pub here: Schedule,
+}
+
+impl Walk {
+    pub fn new() -> Walk
+        ensures { result.best ≡ None }
+    {
+        Walk {
+            best: None,
+            here: Schedule::blank(),
+        }
     }
-    let old = best.map(Record::from);
-    if takes_place(&here.into(), day, &old) {
-        Some(here)
-    } else {
-        best
+
+    // Looks at the schedule of a key: the best is then that one, or as before.
+    fn consider<T: Timetable>(&mut self, timetable: &mut T, key: Key, day: u16)
+        ensures best { (h : Record) → schedule_of (T.Timetable.map timetable.old) key ≡ Some h → held self.new.best ≡ (if takes h day (held self.old.best) then Some h else held self.old.best) }
+        ensures same { timetable.new ≡ timetable.old }
+    {
+        if timetable.find(key, &mut self.here) && takes_place(self.here.record(), day, &self.best) {
+            self.best = Some(self.here);
+        }
+    }
+
+    // Walks over a train from its first key on: the best is then the schedule in force on a day, if there is one. Answers the
+    // first key of the next train.
+    pub fn train<T: Timetable>(&mut self, timetable: &mut T, first: Key, day: u16) -> Option<Key>
+        requires first { IsFirst (T.Timetable.map timetable.old) first }
+        ensures best { MatchOption self.new.best ((s : Record) → Candidate (T.Timetable.map timetable.old) first.uid day s → ⊥) (λ s. InForce (T.Timetable.map timetable.old) first.uid day s.plain) }
+        ensures next { result ≡ not_before (T.Timetable.map timetable.old) (first_of (first.uid + 1)) }
+        ensures same { timetable.new ≡ timetable.old }
+    {
+        self.best = None;
+        let mut key = first;
+        loop {
+            self.consider(timetable, key, day);
+            match timetable.not_before(next_in_train(key)) {
+                Some(next) if next.uid == first.uid => key = next,
+                past => return past,
+            }
+        }
+    }
+}
+
+// The first key that a train can have.
+pub fn first_of(uid: u32) -> Key
+    ensures { result ≡ first_of uid }
+{
+    Key {
+        uid,
+        from: 0,
+        stp: Stp::Cancellation,
     }
 }
 
@@ -66,18 +102,12 @@ pub fn in_force<T: Timetable>(timetable: &mut T, uid: u32, day: u16) -> Option<S
     ensures value { MatchOption result ((s : Record) → Candidate (T.Timetable.map timetable.old) uid day s → ⊥) (λ s. InForce (T.Timetable.map timetable.old) uid day s.plain) }
     ensures same { timetable.new ≡ timetable.old }
 {
-    let mut best = None;
-    let mut probe = Key {
-        uid,
-        from: 0,
-        stp: Stp::Cancellation,
-    };
-    while let Some(key) = timetable.not_before(probe) {
-        if key.uid != uid {
-            break;
+    match timetable.not_before(first_of(uid)) {
+        Some(first) if first.uid == uid => {
+            let mut walk = Walk::new();
+            walk.train(timetable, first, day);
+            walk.best
         }
-        best = consider(timetable, key, day, best);
-        probe = next_in_train(key);
+        _ => None,
     }
-    best
 }

@@ -1,5 +1,5 @@
 // A record that was found to be a schedule.
-ghost use Rattle.std.specs.Prelude.{◌≡◌, true};
+ghost use Rattle.std.specs.Prelude.{◌≡◌, true, false};
 ghost use Rattle.schedule.specs.Records.{is_schedule, blank_record};
 
 use crate::key::Key;
@@ -41,6 +41,26 @@ impl Schedule {
             count: 0,
         };
         Schedule { plain }
+    }
+
+    // The record that holds the schedule, where it lies.
+    pub fn record(&self) -> &Record
+        ensures { result.now ≡ self.now.plain }
+    {
+        &self.plain
+    }
+
+    // Becomes the schedule that a record holds, if it holds one.
+    pub fn set(&mut self, plain: &Record) -> bool
+        ensures told { result ≡ is_schedule plain.now }
+        ensures set { result ≡ true → self.new.plain ≡ plain.now }
+        ensures unchanged { result ≡ false → self.new ≡ self.old }
+    {
+        if !plain.is_schedule() {
+            return false;
+        }
+        self.plain = *plain;
+        true
     }
 }
 

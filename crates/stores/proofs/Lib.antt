@@ -1,2 +1,1 @@
-pub mod Absent
 pub mod Whole

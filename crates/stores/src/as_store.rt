@@ -3,7 +3,6 @@ ghost use Rattle.std.specs.Prelude.{◌≡◌, ◌≤◌, false, length, is_ok};
 ghost use Rattle.ordered.specs.Tables.{room, RestKept};
 ghost use Rattle.timetable.specs.Timetables.{Puts, Removes};
 
-use crate::checked::checked;
 use crate::kept::Kept;
 use ordered::mapped::Mapped;
 use ordered::table::Full;
@@ -28,11 +27,10 @@ impl<T: Mapped<Record>> Timetable for Kept<T> {
     }
 
     fn find(&mut self, key: Key, place: &mut Schedule) -> bool {
-        if let Some(schedule) = self.rows.find(key).and_then(checked) {
-            *place = schedule;
-            return true;
+        match self.rows.find(key) {
+            Some(plain) => place.set(&plain),
+            None => false,
         }
-        false
     }
 
     fn not_before(&mut self, probe: Key) -> Option<Key> {

@@ -3,7 +3,6 @@
 
 pub mod as_store;
 pub mod bag;
-pub mod checked;
 pub mod kept;
 pub mod new;
 pub mod table;

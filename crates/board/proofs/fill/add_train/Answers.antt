@@ -1,45 +1,40 @@
-use Rattle.std.proofs.Common.{refl, sym, ap, ◌∙◌, subst, arith}
+use Rattle.std.proofs.Common.{rules, sym, ap, ◌∙◌, subst, arith}
 use Rattle.ordered.specs.Tables.{items}
 use Rattle.schedule.specs.declared.record.Record.{Record}
-use Rattle.schedule.specs.Records.{is_cancellation, is_schedule}
+use Rattle.schedule.specs.Records.{is_schedule}
 use Rattle.running.specs.Running.{InForce}
-use Rattle.board.proofs.Rests.{grown_none}
-use Rattle.board.proofs.Trains.{no_station, runs_if, calls, trained_none, cancelled_none, trained_calls}
+use Rattle.board.proofs.Trains.{no_station, runs_if, calls, trained_calls}
 use Rattle.board.proofs.fill.add_train.Goals as goal
+use Rattle.board.proofs.fill.add_train.Goals.{In-Some}
 
-pub returns-in-Cancellation : goal.returns-in-Cancellation
-returns-in-Cancellation g c =
-    let m = g.T.Timetable.map c.args.timetable.now in
-    record {
-      trained = trained_none m c.args.shown.now.station c.args.shown.now.day c.args.uid (items c.args.lines.now)
-          (cancelled_none m c.args.shown.now.station c.args.shown.now.day c.args.uid (items c.args.lines.now) c.in-Some.schedule.plain c.in-Some.ensures.value (ap (λ (r : Record). is_cancellation r.key.stp) (sym c.from-plain.ensures) ∙ ap is_cancellation c.in-Cancellation.is));
-      room = refl;
-      lender = refl;
-      grown = grown_none c.args.lines.now;
-      same = c.in_force.ensures.same;
-    }
+-- the schedule that was found is in force
+in_force : (g : _) (c : In-Some g) → InForce (g.T.Timetable.map c.args.timetable.now) c.args.first.uid c.args.shown.now.day c.in-Some.schedule.plain
+in_force g c = rw c.in-Some.is at c.train-next.ensures.best
 
 pub add_calls-requires : goal.add_calls-requires
 add_calls-requires g c =
-    let few = calls c.args.shown.now.station c.from-plain.result (ap is_schedule c.from-plain.ensures ∙ c.in-Some.schedule.valid) in
+    let few = calls c.args.shown.now.station c.record-plain.result.now (ap is_schedule c.record-plain.ensures ∙ c.in-Some.schedule.valid) in
     let two = few.two in
     let space = c.requires.room in
+    let force = in_force g (goal.at.add_calls-requires g c).In-Some in
     record {
       count = few.count;
-      station = no_station c.args.shown.now.station c.told-shown;
+      station = no_station c.args.shown.now.station (search rules);
       room = omega arith;
-      fresh = λ l o e. c.requires.fresh l o (e ∙ (ap (λ (r : Record). r.key.uid) c.from-plain.ensures ∙ c.in-Some.ensures.value.candidate.train));
+      fresh = λ l o e. c.requires.fresh l o (e ∙ (ap (λ (r : Record). r.key.uid) c.record-plain.ensures ∙ force.candidate.train));
     }
 
 pub returns-in_default-stp : goal.returns-in_default-stp
 returns-in_default-stp g c =
     let m = g.T.Timetable.map c.args.timetable.now in
+    let force = in_force g (goal.at.returns-in_default-stp g c).In-Some in
     record {
-      trained = trained_calls m c.args.shown.now.station c.args.shown.now.day c.args.uid (items c.args.lines.now) c.from-plain.result _
-          (subst (λ (r : Record). InForce m c.args.uid c.args.shown.now.day r) (sym c.from-plain.ensures) c.in-Some.ensures.value)
-          (runs_if _ c.in_default-stp.not-Cancellation) (ap is_schedule c.from-plain.ensures ∙ c.in-Some.schedule.valid) c.add_calls.ensures.added;
+      trained = trained_calls m c.args.shown.now.station c.args.shown.now.day c.args.first.uid (items c.args.lines.now) c.record-plain.result.now _
+          (subst (λ (r : Record). InForce m c.args.first.uid c.args.shown.now.day r) (sym c.record-plain.ensures) force)
+          (runs_if _ c.in_default-stp.not-Cancellation) (ap is_schedule c.record-plain.ensures ∙ c.in-Some.schedule.valid) c.add_calls.ensures.added;
+      next = c.train-next.ensures.next;
       room = c.add_calls.ensures.room;
       lender = c.add_calls.ensures.lender;
       grown = c.add_calls.ensures.grown;
-      same = c.in_force.ensures.same;
+      same = c.train-next.ensures.same;
     }

@@ -1,71 +1,101 @@
-use Rattle.std.proofs.Common.{◌+◌, ◌<◌, List, sym, refl, ap, ◌∙◌, subst, arith}
+use Rattle.std.proofs.Common.{◌≡◌, ◌<◌, ◌≤◌, ◌+◌, ◌*◌, length, List, Some, refl, ap, ◌∙◌, subst, arith}
 use Rattle.ordered.specs.Tables.{items}
 use Rattle.schedule.specs.declared.record.Record.{Record}
 use Rattle.timetable.specs.Timetables.{not_before}
 use Rattle.timetable.proofs.Nexts.{left}
-use Rattle.board.specs.Filling.{Trained}
-use Rattle.board.proofs.Boards.{first_of, start, fresh, more, whole, left_all, step, falls, uid_small}
+use Rattle.running.specs.Running.{first_of, IsFirst}
+use Rattle.board.specs.Filling.{StartsTrain, UpTo, Trained}
+use Rattle.board.proofs.Boards.{start, starts, fresh, more, whole, left_from, left_from_all, falls, some_left}
 use Rattle.board.proofs.Rests.{rest_more}
 use Rattle.board.proofs.fill.gather_lines.Goals as goal
+use Rattle.board.proofs.fill.gather_lines.Goals.{In-Some, After-add_train-next}
 
-pub loop-key-init : goal.loop-key-init
-loop-key-init g c =
-    let all = left_all (g.T.Timetable.map c.args.timetable.now) (first_of 0) in
-    (start _ _ _, refl, refl, omega arith, refl, record { rest = refl; slots = refl })
-
-pub add_train-requires : goal.add_train-requires
-add_train-requires g c =
-    let same = ap g.T.Timetable.map c.loop-key.invariant.2 in
+pub loop-next-init : goal.loop-next-init
+loop-next-init g c =
+    let m = g.T.Timetable.map c.args.timetable.now in
     let is = g.met.T.Timetable.is_map c.args.timetable.now in
-    let value = c.in-Some.ensures.value ∙ ap (λ (m : List Record). not_before m (first_of c.loop-key.uid)) same in
-    let less = falls (g.T.Timetable.map c.args.timetable.now) is c.loop-key.uid c.in-Some.key value in
-    let few = c.loop-key.invariant.3 in
-    let space = c.requires in
-    let slots = c.loop-key.invariant.1 in
+    let asked = c.not_before-next.ensures.value ∙ ap (not_before m) c.first_of.ensures in
+    let all = left_from_all m c.not_before-next.result in (
+      start m c.args.shown.now.station c.args.shown.now.day c.not_before-next.result is asked,
+      refl,
+      c.not_before-next.ensures.same,
+      omega arith,
+      refl,
+      starts m 0 c.not_before-next.result is asked,
+      record { rest = refl; slots = refl },
+    )
+
+-- the key that is walked from is the first one of its train
+first : (g : _) (c : In-Some g) → IsFirst (g.T.Timetable.map c.args.timetable.now) c.in-Some.first
+first g c = subst (StartsTrain (g.T.Timetable.map c.args.timetable.now)) c.in-Some.is c.loop-next.invariant.5
+
+so_far : (g : _) (c : In-Some g) → UpTo (g.T.Timetable.map c.args.timetable.now) c.args.shown.now.station c.args.shown.now.day (Some c.in-Some.first) (items c.loop-next.lines)
+so_far g c = rw c.in-Some.is at c.loop-next.invariant.0
+
+-- the lines so far, and the keys that are left
+few : (g : _) (c : In-Some g) → length (items c.loop-next.lines) + 2 * left (g.T.Timetable.map c.args.timetable.now) c.in-Some.first ≤ 2 * length (g.T.Timetable.map c.args.timetable.now)
+few g c = rw c.in-Some.is at c.loop-next.invariant.3
+
+asked : (g : _) (c : After-add_train-next g) → c.add_train-next.result ≡ not_before (g.T.Timetable.map c.args.timetable.now) (first_of (c.in-Some.first.uid + 1))
+asked g c = c.add_train-next.ensures.next ∙ ap (λ t. not_before (g.T.Timetable.map t) (first_of (c.in-Some.first.uid + 1))) c.loop-next.invariant.2
+
+less : (g : _) (c : After-add_train-next g) → IsFirst (g.T.Timetable.map c.args.timetable.now) c.in-Some.first → left_from (g.T.Timetable.map c.args.timetable.now) c.add_train-next.result < left (g.T.Timetable.map c.args.timetable.now) c.in-Some.first
+less g c f = falls (g.T.Timetable.map c.args.timetable.now) (g.met.T.Timetable.is_map c.args.timetable.now) c.in-Some.first c.add_train-next.result f (asked g c)
+
+pub add_train-next-requires : goal.add_train-next-requires
+add_train-next-requires g c =
+    let m = g.T.Timetable.map c.args.timetable.now in
+    let is = g.met.T.Timetable.is_map c.args.timetable.now in
+    let at = (goal.at.add_train-next-requires g c).In-Some in
+    let f = first g at in
+    let there = some_left m is c.in-Some.first f in
+    let n = few g at in
+    let slots = c.loop-next.invariant.1 in
+    let space = c.requires.room in
     record {
       room = omega arith;
-      fresh = fresh (g.T.Timetable.map c.args.timetable.now) c.args.shown.now.station c.args.shown.now.day c.loop-key.uid c.in-Some.key (step (g.T.Timetable.map c.args.timetable.now) is c.loop-key.uid c.in-Some.key value) (items c.loop-key.lines) c.loop-key.invariant.0;
+      fresh = fresh m c.args.shown.now.station c.args.shown.now.day c.in-Some.first is (items c.loop-next.lines) (so_far g at);
+      first = ap (λ t. not_before (g.T.Timetable.map t) (first_of c.in-Some.first.uid)) c.loop-next.invariant.2 ∙ f;
     }
 
-pub overflow_add-uid : goal.overflow_add-uid
-overflow_add-uid g c =
-    let small = uid_small (g.T.Timetable.map c.loop-key.timetable) (g.met.T.Timetable.is_map c.loop-key.timetable) c.loop-key.uid c.in-Some.key c.in-Some.ensures.value in
+pub loop-next-smaller : goal.loop-next-smaller
+loop-next-smaller g c =
+    let m = g.T.Timetable.map c.args.timetable.now in
+    let l = less g c (first g (goal.at.loop-next-smaller g c).In-Some) in
+    let before : left_from (g.T.Timetable.map c.loop-next.timetable) c.loop-next.next ≡ left m c.in-Some.first
+    = ap (λ t. left_from (g.T.Timetable.map t) c.loop-next.next) c.loop-next.invariant.2 ∙ ap (left_from m) c.in-Some.is in
+    let after : left_from (g.T.Timetable.map c.add_train-next.new.timetable) c.add_train-next.result ≡ left_from m c.add_train-next.result
+    = ap (λ t. left_from (g.T.Timetable.map t) c.add_train-next.result) (c.add_train-next.ensures.same ∙ c.loop-next.invariant.2) in
     omega arith
 
-pub loop-key-smaller : goal.loop-key-smaller
-loop-key-smaller g c =
-    subst (λ (m : List Record). left m (first_of (c.in-Some.key.uid + 1)) < left (g.T.Timetable.map c.loop-key.timetable) (first_of c.loop-key.uid))
-    (sym (ap g.T.Timetable.map (c.add_train.ensures.same ∙ c.in-Some.ensures.same)))
-    (falls (g.T.Timetable.map c.loop-key.timetable) (g.met.T.Timetable.is_map c.loop-key.timetable) c.loop-key.uid c.in-Some.key c.in-Some.ensures.value)
-
-pub loop-key-preserved : goal.loop-key-preserved
-loop-key-preserved g c =
-    let same = ap g.T.Timetable.map c.loop-key.invariant.2 in
+pub loop-next-preserved : goal.loop-next-preserved
+loop-next-preserved g c =
+    let m = g.T.Timetable.map c.args.timetable.now in
     let is = g.met.T.Timetable.is_map c.args.timetable.now in
-    let value = c.in-Some.ensures.value ∙ ap (λ (m : List Record). not_before m (first_of c.loop-key.uid)) same in
-    let trained = subst (λ (m : List Record). Trained m c.args.shown.now.station c.args.shown.now.day c.in-Some.key.uid (items c.loop-key.lines) (items c.add_train.new.lines)) (ap g.T.Timetable.map (c.in-Some.ensures.same ∙ c.loop-key.invariant.2)) c.add_train.ensures.trained in
-    let less = falls (g.T.Timetable.map c.args.timetable.now) is c.loop-key.uid c.in-Some.key value in
-    let few = c.loop-key.invariant.3 in
+    let at = (goal.at.loop-next-preserved g c).In-Some in
+    let f = first g at in
+    let n = few g at in
+    let l = less g (goal.at.loop-next-preserved g c).After-add_train-next f in
+    let next = asked g (goal.at.loop-next-preserved g c).After-add_train-next in
+    let trained = subst (λ (r : List Record). Trained r c.args.shown.now.station c.args.shown.now.day c.in-Some.first.uid (items c.loop-next.lines) (items c.add_train-next.new.lines)) (ap g.T.Timetable.map c.loop-next.invariant.2) c.add_train-next.ensures.trained in
     let two = trained.few in (
-      more (g.T.Timetable.map c.args.timetable.now) c.args.shown.now.station c.args.shown.now.day c.loop-key.uid c.in-Some.key (step (g.T.Timetable.map c.args.timetable.now) is c.loop-key.uid c.in-Some.key value) (items c.loop-key.lines) c.loop-key.invariant.0 (items c.add_train.new.lines) trained,
-      c.add_train.ensures.room ∙ c.loop-key.invariant.1,
-      c.add_train.ensures.same ∙ (c.in-Some.ensures.same ∙ c.loop-key.invariant.2),
+      more m c.args.shown.now.station c.args.shown.now.day c.in-Some.first is (items c.loop-next.lines) (so_far g at) (items c.add_train-next.new.lines) c.add_train-next.result next trained,
+      c.add_train-next.ensures.room ∙ c.loop-next.invariant.1,
+      c.add_train-next.ensures.same ∙ c.loop-next.invariant.2,
       omega arith,
-      c.add_train.ensures.lender ∙ c.loop-key.invariant.4,
-      rest_more _ _ _ c.loop-key.invariant.5 c.add_train.ensures.grown,
+      c.add_train-next.ensures.lender ∙ c.loop-next.invariant.4,
+      starts m (c.in-Some.first.uid + 1) c.add_train-next.result is next,
+      rest_more _ _ _ c.loop-next.invariant.6 c.add_train-next.ensures.grown,
     )
 
 pub returns : goal.returns
 returns g c =
-    let same = ap g.T.Timetable.map c.loop-key.invariant.2 in
+    let n = c.loop-next.invariant.3 in
     record {
-      lines = whole (g.T.Timetable.map c.args.timetable.now) c.args.shown.now.station c.args.shown.now.day c.loop-key.uid (items c.loop-key.lines)
-          (g.met.T.Timetable.is_map c.args.timetable.now)
-          (c.in_default.ensures.value ∙ ap (λ (m : List Record). not_before m (first_of c.loop-key.uid)) same)
-          c.loop-key.invariant.0;
-      few = (let n = c.loop-key.invariant.3 in omega arith);
-      room = c.loop-key.invariant.1;
-      lender = c.loop-key.invariant.4;
-      rest = record { rest = c.loop-key.invariant.5.rest; slots = c.loop-key.invariant.5.slots };
-      same = c.in_default.ensures.same ∙ c.loop-key.invariant.2;
+      lines = whole (g.T.Timetable.map c.args.timetable.now) c.args.shown.now.station c.args.shown.now.day (items c.loop-next.lines) (rw c.in_default.is at c.loop-next.invariant.0);
+      few = omega arith;
+      room = c.loop-next.invariant.1;
+      lender = c.loop-next.invariant.4;
+      rest = record { rest = c.loop-next.invariant.6.rest; slots = c.loop-next.invariant.6.slots };
+      same = c.loop-next.invariant.2;
     }

@@ -1,18 +1,18 @@
 use Rattle.std.proofs.Common.{◌≡◌, ◌+◌, ◌*◌, ◌≤◌, length}
 use Rattle.ordered.specs.Tables.{items, room, RestKept}
-use Rattle.timetable.proofs.Nexts.{left}
-use Rattle.board.specs.Filling.{UpTo}
-use Rattle.board.proofs.Boards.{first_of}
+use Rattle.board.specs.Filling.{StartsTrain, UpTo}
+use Rattle.board.proofs.Boards.{left_from}
 use Rattle.board.proofs.fill.gather_lines.Given as goal
 
-abbrev pub invariant-loop-key : goal.invariant-loop-key
-invariant-loop-key g l =
-    UpTo (g.T.Timetable.map l.initial.timetable) l.shown.station l.shown.day l.uid (items l.lines)
+abbrev pub invariant-loop-next : goal.invariant-loop-next
+invariant-loop-next g l =
+    UpTo (g.T.Timetable.map l.fn.timetable) l.shown.station l.shown.day l.next (items l.lines)
     × (room l.lines ≡ room l.initial.lines)
-    × (l.timetable ≡ l.initial.timetable)
-    × (length (items l.lines) + 2 * left (g.T.Timetable.map l.initial.timetable) (first_of l.uid) ≤ 2 * length (g.T.Timetable.map l.initial.timetable))
+    × (l.timetable ≡ l.fn.timetable)
+    × (length (items l.lines) + 2 * left_from (g.T.Timetable.map l.fn.timetable) l.next ≤ 2 * length (g.T.Timetable.map l.fn.timetable))
     × (l.lines.slots.ghost_name ≡ l.initial.lines.slots.ghost_name)
+    × StartsTrain (g.T.Timetable.map l.fn.timetable) l.next
     × RestKept l.initial.lines l.lines
 
-abbrev pub decreases-loop-key : goal.decreases-loop-key
-decreases-loop-key g l = left (g.T.Timetable.map l.timetable) (first_of l.uid)
+abbrev pub decreases-loop-next : goal.decreases-loop-next
+decreases-loop-next g l = left_from (g.T.Timetable.map l.timetable) l.next
