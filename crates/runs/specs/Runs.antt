@@ -65,6 +65,9 @@ pub record Runs (capacity slots : ℕ) (calls : List Asked) (answers : List Answ
   pub places : length answers ≡ length calls
   pub each : FirstCalls capacity slots calls answers (length calls)
   pub keeps : KeepsTo end (ledger_of calls answers)
+  -- capacity and line slots are still those that the answers go by
+  pub capacity_stays : end.standing.capacity ≡ capacity
+  pub slots_stay : end.slots ≡ slots
 
 -- a plan can be run: its store is empty, and there is a place for the answer to each call
 pub record Suits {S : Type 0} (map : S → List Record) (p : Plan S) : Type 0 where

@@ -28,5 +28,7 @@ returns g c =
         places = v.0;
         each = λ k call answer l e f. v.1 k call answer (let t = c.loop-place-test.false in omega arith) e f;
         keeps = subst (λ (ℓ : Ledger). KeepsTo (stands g.S.Timetable.map g.S.Timetable.capacity c.loop-place.installation) ℓ) (ledger_all calls c.loop-place.answers c.loop-place.place v.0 c.loop-place-test.false) v.2;
+        capacity_stays = v.3;
+        slots_stay = v.4;
       },
     )
