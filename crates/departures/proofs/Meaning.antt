@@ -1,11 +1,11 @@
 -- What texts and digits stand for, step by step.
-use Rattle.std.proofs.Common.{◌≡◌, ℕ, ◌+◌, ◌-◌, ◌*◌, ◌<◌, ◌≤◌, Bool, true, false, cond, eqb, List, get_or, drop, [], ◌∷◌, ◌++◌, length, Some, None, Option, refl, ap, sym, ◌∙◌, append_assoc, arith}
+use Rattle.std.proofs.Common.{◌≡◌, ℕ, ◌+◌, ◌-◌, ◌*◌, ◌<◌, Bool, true, false, cond, List, get_or, drop, [], ◌∷◌, ◌++◌, length, Some, None, Option, refl, ap, sym, ◌∙◌, append_assoc, arith}
 use Rattle.std.specs.Option.{option_map}
 use Rattle.std.proofs.lemmas.List.{at_drop_more}
 use Rattle.std.proofs.lemmas.Bool.{cond-true}
 use Rattle.std.proofs.lemmas.Bool.Decides.{nat_tests}
-use Rattle.std.specs.Prelude.{◌==◌, nat_le}
-use Rattle.forms.specs.Bytes.{is_digit, and_then, provided}
+use Rattle.std.specs.Prelude.{◌==◌}
+use Rattle.forms.specs.Bytes.{is_digit, and_then}
 use Rattle.forms.specs.Forms.{number_after}
 use Rattle.departures.specs.Scripts.{hex_byte, first_meant, escaped, meant, meant_escaped, at_most, number_up_to}
 

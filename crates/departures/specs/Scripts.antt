@@ -3,6 +3,9 @@ use Rattle.std.specs.Prelude.{ℕ, ◌+◌, ◌-◌, ◌*◌, ◌&&◌, Bool, co
 use Rattle.std.specs.Option.{option_map}
 use Rattle.forms.specs.Bytes.{and_then, provided}
 use Rattle.forms.specs.Forms.{number_in}
+use Rattle.controller.specs.Calls.{Call, Open, Row, Confirm, Abandon, Turn, Tell, Tally}
+use Rattle.departures.specs.declared.scripts.Step.{Step}
+use Rattle.departures.specs.declared.scripts.Step.TheVariants.{Open as AsksOpen, Row as AsksRow, Confirm as AsksConfirm, Abandon as AsksAbandon, Turn as AsksTurn, Tell as AsksTell, Tally as AsksTally}
 
 -- whether a number lies between two others, both included
 abbrev pub between : ℕ → ℕ → ℕ → Bool
@@ -51,3 +54,13 @@ at_most most number = and_then number (λ n. provided (nat_le n most) n)
 abbrev pub number_up_to : ℕ → List ℕ → Option ℕ
 number_up_to most [] = None
 number_up_to most (c ∷ cs) = at_most most (number_in (c ∷ cs))
+
+-- the call that a step of a script asks for
+abbrev pub call_of : Step → Call
+call_of (AsksOpen row) = Open row.items
+call_of (AsksRow row) = Row row.items
+call_of AsksConfirm = Confirm
+call_of AsksAbandon = Abandon
+call_of (AsksTurn day station) = Turn station.items day
+call_of (AsksTell place) = Tell place
+call_of AsksTally = Tally

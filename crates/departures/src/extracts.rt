@@ -8,9 +8,10 @@ ghost use Rattle.departures.specs.Handing.{handed};
 
 use crate::answers::RefusedWords;
 use crate::boards::{filled, line_slots, print_refused, shown_lines};
+use crate::changes::ChangeWords;
 use crate::rows::Tally;
 use crate::tasks::{StoreKind, Wanted};
-use crate::words::{ChangeWords, Text, stage_name};
+use crate::words::{Text, stage_name};
 use board::display::Board;
 use board::line::Line;
 use cif::refusal::Refusal;

@@ -4,8 +4,8 @@ ghost use Rattle.ordered.specs.Tables.{items, room};
 ghost use Rattle.schedule.specs.Records.{is_schedule};
 ghost use Rattle.departures.specs.Keeping.{SameRooms};
 
+use crate::changes::{KeyWords, RecordWords};
 use crate::drafts::{Asked, Draft};
-use crate::words::{KeyWords, RecordWords};
 use cif::reading::read;
 use files::Rows;
 use forms::letters::Stp;

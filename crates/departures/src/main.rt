@@ -8,6 +8,7 @@ use timetable::Store;
 
 mod answers;
 mod boards;
+mod changes;
 mod drafts;
 mod extracts;
 mod follow;

@@ -1,6 +1,7 @@
 // Scripts of calls.
 ghost use Rattle.std.specs.Prelude.{◌≡◌, ◌<◌, ◌≤◌, true, false, [], ◌∷◌, ◌++◌, length, is_ok, None, option_map, Contains, IfOk, IfSome, MatchOption};
-ghost use Rattle.departures.specs.Scripts.{hex_value, first_meant, meant, number_up_to};
+ghost use Rattle.runs.specs.Runs.{asked};
+ghost use Rattle.departures.specs.Scripts.{hex_value, first_meant, meant, number_up_to, call_of};
 
 use anyhow::anyhow;
 use files::Rows;
@@ -38,7 +39,10 @@ impl Step {
         }
     }
 
-    pub fn call(&self) -> Call<'_> {
+    // The call that it asks for.
+    pub fn call(&self) -> Call<'_>
+        ensures { asked result ≡ call_of self.now }
+    {
         match self {
             Step::Open(row) => Call::Open(row.as_slice()),
             Step::Row(row) => Call::Row(row.as_slice()),

@@ -7,9 +7,6 @@ use cif::identity::Identity;
 use cif::refusal::{Refusal, RowFault};
 use extract::stage::Stage;
 use forms::letters::{Coverage, Stp};
-use schedule::key::Key;
-use schedule::record::Record;
-use schedule::transaction;
 use std::fmt;
 use std::fmt::{Display, Formatter};
 
@@ -38,7 +35,7 @@ impl Display for Text<'_> {
 
 // A UID, made again from its number.
 #[derive(Clone, Copy)]
-struct Uid(u32);
+pub struct Uid(pub u32);
 
 impl Display for Uid {
     fn fmt<W: fmt::Write>(&self, f: &mut Formatter<W>) -> fmt::Result {
@@ -263,63 +260,5 @@ pub fn stage_name(stage: Stage) -> &'static str
         Stage::Running => "running",
         Stage::Changed => "changed",
         Stage::Complete => "complete",
-    }
-}
-
-// A schedule's key.
-#[derive(Clone, Copy)]
-pub struct KeyWords(pub Key);
-
-impl Display for KeyWords {
-    fn fmt<W: fmt::Write>(&self, f: &mut Formatter<W>) -> fmt::Result {
-        let key = self.0;
-        let uid = Uid(key.uid);
-        let letter = key.stp.letter() as char;
-        let day = key.from;
-        write!(f, "{uid} {letter} day {day}")
-    }
-}
-
-// A schedule on one line.
-#[derive(Clone, Copy)]
-pub struct RecordWords<'a>(pub &'a Record);
-
-impl Display for RecordWords<'_> {
-    fn fmt<W: fmt::Write>(&self, f: &mut Formatter<W>) -> fmt::Result {
-        let key = KeyWords(self.0.key);
-        let to = self.0.to;
-        let days = DaysRun(&self.0.days);
-        let train = Text(&self.0.train);
-        let operator = Text(&self.0.operator);
-        let destination = Text(&self.0.destination);
-        let calls = self.0.count;
-        write!(f, "{key} to day {to}, runs {days}, identity \"{train}\"")?;
-        write!(
-            f,
-            ", operator \"{operator}\", destination \"{destination}\", calls {calls}"
-        )
-    }
-}
-
-// A transaction on one line.
-#[derive(Clone, Copy)]
-pub struct ChangeWords<'a>(pub &'a transaction::Change);
-
-impl Display for ChangeWords<'_> {
-    fn fmt<W: fmt::Write>(&self, f: &mut Formatter<W>) -> fmt::Result {
-        match self.0 {
-            transaction::Change::New(plain) => {
-                let words = RecordWords(plain);
-                write!(f, "new {words}")
-            }
-            transaction::Change::Revise(plain) => {
-                let words = RecordWords(plain);
-                write!(f, "revised {words}")
-            }
-            transaction::Change::Delete(key) => {
-                let words = KeyWords(*key);
-                write!(f, "deleted {words}")
-            }
-        }
     }
 }

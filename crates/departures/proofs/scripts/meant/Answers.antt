@@ -1,6 +1,6 @@
-use Rattle.std.proofs.Common.{◌≡◌, List, ℕ, ◌++◌, Some, Option, ap, sym, ◌∙◌}
+use Rattle.std.proofs.Common.{List, ℕ, ◌++◌, ap, sym, ◌∙◌}
 use Rattle.std.specs.Option.{option_map}
-use Rattle.departures.specs.Scripts.{first_meant, meant}
+use Rattle.departures.specs.Scripts.{meant}
 use Rattle.departures.proofs.Meaning.{turn_more}
 use Rattle.departures.proofs.scripts.meant.Goals as goal
 

@@ -1,4 +1,4 @@
-use Rattle.std.proofs.Common.{get_or, sym, ◌∙◌, arith}
+use Rattle.std.proofs.Common.{sym, ◌∙◌, arith}
 use Rattle.departures.proofs.Meaning.{up_to_reads, too_large_at}
 use Rattle.departures.proofs.scripts.number_up_to.Goals as goal
 

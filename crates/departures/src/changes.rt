@@ -1,0 +1,65 @@
+// Keys, schedules and transactions, in plain words.
+use crate::words::{DaysRun, Text, Uid};
+use schedule::key::Key;
+use schedule::record::Record;
+use schedule::transaction::Change;
+use std::fmt;
+use std::fmt::{Display, Formatter};
+
+// A schedule's key.
+#[derive(Clone, Copy)]
+pub struct KeyWords(pub Key);
+
+impl Display for KeyWords {
+    fn fmt<W: fmt::Write>(&self, f: &mut Formatter<W>) -> fmt::Result {
+        let key = self.0;
+        let uid = Uid(key.uid);
+        let letter = key.stp.letter() as char;
+        let day = key.from;
+        write!(f, "{uid} {letter} day {day}")
+    }
+}
+
+// A schedule on one line.
+#[derive(Clone, Copy)]
+pub struct RecordWords<'a>(pub &'a Record);
+
+impl Display for RecordWords<'_> {
+    fn fmt<W: fmt::Write>(&self, f: &mut Formatter<W>) -> fmt::Result {
+        let key = KeyWords(self.0.key);
+        let to = self.0.to;
+        let days = DaysRun(&self.0.days);
+        let train = Text(&self.0.train);
+        let operator = Text(&self.0.operator);
+        let destination = Text(&self.0.destination);
+        let calls = self.0.count;
+        write!(f, "{key} to day {to}, runs {days}, identity \"{train}\"")?;
+        write!(
+            f,
+            ", operator \"{operator}\", destination \"{destination}\", calls {calls}"
+        )
+    }
+}
+
+// A transaction on one line.
+#[derive(Clone, Copy)]
+pub struct ChangeWords<'a>(pub &'a Change);
+
+impl Display for ChangeWords<'_> {
+    fn fmt<W: fmt::Write>(&self, f: &mut Formatter<W>) -> fmt::Result {
+        match self.0 {
+            Change::New(plain) => {
+                let words = RecordWords(plain);
+                write!(f, "new {words}")
+            }
+            Change::Revise(plain) => {
+                let words = RecordWords(plain);
+                write!(f, "revised {words}")
+            }
+            Change::Delete(key) => {
+                let words = KeyWords(*key);
+                write!(f, "deleted {words}")
+            }
+        }
+    }
+}
