@@ -1,6 +1,6 @@
 -- A walk over the trains of a map that fills in a board.
-use Rattle.std.proofs.Common.{◌≡◌, ℕ, ◌+◌, ◌<◌, ◌≤◌, true, false, List, [], ◌∷◌, length, Some, None, Option, sym, refl, ap, ◌∙◌, ⊎_elim, arith}
-use Rattle.std.proofs.lemmas.Bool.{both_ways, cases_Bool, cases_lt, cases_order}
+use Rattle.std.proofs.Common.{◌≡◌, ℕ, ◌+◌, ◌<◌, ◌≤◌, true, false, List, [], length, Some, None, Option, sym, refl, ap, ◌∙◌, ⊎_elim, arith}
+use Rattle.std.proofs.lemmas.Bool.{both_ways, cases_lt, cases_order}
 use Rattle.std.proofs.lemmas.Bool.Decides.{nat_tests}
 use Rattle.maps.specs.Maps.{ascending, lookup, gathered, apart}
 use Rattle.maps.proofs.Maps.{same_maps, ascending_gathered, lookup_gathered}
@@ -13,7 +13,7 @@ use Rattle.timetable.specs.Timetables.{not_before, IsMap}
 use Rattle.timetable.proofs.Nexts.{next, all_before, left, walk_falls}
 use Rattle.running.specs.Running.{Holds, first_of, IsFirst}
 use Rattle.running.proofs.Forces.{none_some}
-use Rattle.running.proofs.Trains.{own, first_there, still_next}
+use Rattle.running.proofs.Trains.{own, first_there, left_all, still_next}
 use Rattle.running.proofs.Walks.{held_has}
 use Rattle.board.specs.declared.line.LineKey.{LineKey}
 use Rattle.board.specs.declared.line.Line.{Line}
@@ -113,13 +113,6 @@ pub as_many : (ys zs : List Line) → apart line_before line_key ys ≡ true →
 as_many ys zs a sorted = ap length (sorted a) ∙ length_gathered line_before line_key line_lawful ys a
 
 -- the measure: how many keys are left
-pub left_all : (m : List Record) (probe : Key) → left m probe ≤ length m
-unfolding left
-left_all [] probe = omega arith
-left_all (r ∷ rs) probe =
-    let rest = left_all rs probe in
-    ⊎_elim (λ (t : key_before (key_of r) probe ≡ true). rw t (omega arith)) (λ (f : key_before (key_of r) probe ≡ false). rw f (omega arith)) (cases_Bool (key_before (key_of r) probe))
-
 abbrev pub left_from : List Record → Option Key → ℕ
 left_from m None = 0
 left_from m (Some k) = left m k

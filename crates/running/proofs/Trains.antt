@@ -1,5 +1,5 @@
 -- A walk over one train, from its first key to the first key of the next.
-use Rattle.std.proofs.Common.{◌≡◌, ℕ, ◌+◌, true, false, List, [], ◌∷◌, Some, None, Option, sym, ap, ◌∙◌, ⊎_elim, arith}
+use Rattle.std.proofs.Common.{◌≡◌, ℕ, ◌+◌, ◌<◌, ◌≤◌, true, false, cond, List, [], ◌∷◌, length, Some, None, Option, sym, ap, ◌∙◌, ⊎_elim, arith}
 use Rattle.std.proofs.lemmas.Bool.{cases_Bool, both_ways}
 use Rattle.std.proofs.lemmas.Bool.Decides.{nat_tests}
 use Rattle.schedule.specs.declared.key.Key.{Key}
@@ -8,8 +8,8 @@ use Rattle.schedule.specs.Keys.{key_before}
 use Rattle.schedule.specs.Records.{key_of}
 use Rattle.schedule.specs.Orders.{key_irreflexive, key_transitive, key_total}
 use Rattle.timetable.specs.Timetables.{not_before, IsMap}
-use Rattle.timetable.specs.Laws.{Has}
-use Rattle.timetable.proofs.Nexts.{Next, next}
+use Rattle.timetable.specs.Laws.{Has, has_key}
+use Rattle.timetable.proofs.Nexts.{Next, next, left, walk_falls}
 use Rattle.running.specs.Running.{Candidate, first_of, IsFirst}
 use Rattle.running.proofs.Forces.{some_is, none_some}
 use Rattle.running.proofs.Walks.{Walked, begin, held_has}
@@ -17,6 +17,26 @@ use Rattle.running.proofs.Walks.{Walked, begin, held_has}
 -- a key of the map is the next one from itself on
 pub own : (m : List Record) (key : Key) → Has m key → Next m key key
 own m key h = record { there = h; past = key_irreflexive key; least = λ k _ f. f }
+
+-- no more keys are left than there are
+pub left_all : (m : List Record) (probe : Key) → left m probe ≤ length m
+unfolding left
+left_all [] probe = omega arith
+left_all (r ∷ rs) probe =
+    let rest = left_all rs probe in
+    ⊎_elim (λ (t : key_before (key_of r) probe ≡ true). rw t (omega arith)) (λ (f : key_before (key_of r) probe ≡ false). rw f (omega arith)) (cases_Bool (key_before (key_of r) probe))
+
+-- the measure: how many keys of the map are not before a key of it; from any other key on, more than there are
+abbrev pub turns : List Record → Key → ℕ
+turns m key = cond (has_key m key) (left m key) (length m + 1)
+
+pub turns_fall : (m : List Record) (key nxt : Key) → IsMap m → Has m nxt → (Has m key → key_before key nxt ≡ true) → turns m nxt < turns m key
+turns_fall m key nxt is there later =
+    let all = left_all m nxt in
+    ⊎_elim
+    (λ (h : has_key m key ≡ true). let falls = walk_falls m is key key (own m key h) nxt (later h) in rw (there, h) falls)
+    (λ (h : has_key m key ≡ false). rw (there, h) (omega arith))
+    (cases_Bool (has_key m key))
 
 -- what comes after a probe comes after all that is before it
 pub passes : (key probe nxt : Key) → key_before key probe ≡ true → key_before nxt probe ≡ false → key_before key nxt ≡ true

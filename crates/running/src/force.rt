@@ -66,11 +66,10 @@ impl Walk {
         }
     }
 
-    // Walks over a train from its first key on: the best is then the schedule in force on a day, if there is one. Answers the
-    // first key of the next train.
+    // Walks over a train from a key on, and answers the first key of the next train. From the train's first key on, the best is
+    // then the schedule in force on a day, if there is one.
     pub fn train<T: Timetable>(&mut self, timetable: &mut T, first: Key, day: u16) -> Option<Key>
-        requires first { IsFirst (T.Timetable.map timetable.old) first }
-        ensures best { MatchOption self.new.best ((s : Record) → Candidate (T.Timetable.map timetable.old) first.uid day s → ⊥) (λ s. InForce (T.Timetable.map timetable.old) first.uid day s.plain) }
+        ensures best { IsFirst (T.Timetable.map timetable.old) first → MatchOption self.new.best ((s : Record) → Candidate (T.Timetable.map timetable.old) first.uid day s → ⊥) (λ s. InForce (T.Timetable.map timetable.old) first.uid day s.plain) }
         ensures next { result ≡ not_before (T.Timetable.map timetable.old) (first_of (first.uid + 1)) }
         ensures same { timetable.new ≡ timetable.old }
     {

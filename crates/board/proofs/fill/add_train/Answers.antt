@@ -9,7 +9,7 @@ use Rattle.board.proofs.fill.add_train.Goals.{In-Some}
 
 -- the schedule that was found is in force
 in_force : (g : _) (c : In-Some g) → InForce (g.T.Timetable.map c.args.timetable.now) c.args.first.uid c.args.shown.now.day c.in-Some.schedule.plain
-in_force g c = rw c.in-Some.is at c.train-next.ensures.best
+in_force g c = rw c.in-Some.is at c.train-next.ensures.best c.requires.first
 
 pub add_calls-requires : goal.add_calls-requires
 add_calls-requires g c =
