@@ -1,5 +1,5 @@
 -- One turn of the walk over the keys of a train, and its end.
-use Rattle.std.proofs.Common.{◌≡◌, ℕ, Bool, true, false, cond, ◌&&◌, leb, ◌⊎◌, List, Some, None, Option, MatchOption, sym, refl, ap, ◌∙◌, subst, inl, inr, ⊎_elim, arith}
+use Rattle.std.proofs.Common.{◌≡◌, ℕ, Bool, true, false, cond, ◌<◌, ◌&&◌, leb, ◌⊎◌, List, Some, None, Option, MatchOption, sym, refl, ap, ◌∙◌, subst, inl, inr, ⊎_elim, arith}
 use Rattle.std.proofs.lemmas.Bool.{and_parts, leb-true, cases_Bool, both_ways, cond-true, cond-false}
 use Rattle.std.proofs.lemmas.Bool.Decides.{nat_tests}
 use Rattle.schedule.specs.declared.key.Key.{Key}
@@ -20,6 +20,14 @@ is_candidate m uid day r held train h =
     let a = and_parts (leb r.key.from day) _ h in
     let b = and_parts (leb day r.to) _ a.1 in
     record { there = held; train = train; begun = leb-true _ _ a.0; lasts = leb-true _ _ b.0; runs = b.1 }
+
+not_begun : (r : Record) (d : ℕ) → d < r.key.from → leb r.key.from d ≡ false
+not_begun r d l = grind (arith, nat_tests)
+
+-- a schedule that begins after the day takes no place
+pub begins_after : (h : Record) (day : ℕ) (best : Option Record) → day < h.key.from → takes h day best ≡ false
+begins_after h day None l = let f : leb h.key.from day ≡ false = not_begun h day l in rw f refl
+begins_after h day (Some b) l = let f : leb h.key.from day ≡ false = not_begun h day l in rw f refl
 
 -- a schedule that takes the place of the best covers the day
 covers_taken : (h : Record) (day : ℕ) (best : Option Record) → takes h day best ≡ true → covering h day ≡ true

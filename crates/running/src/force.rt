@@ -56,11 +56,14 @@ impl Walk {
         }
     }
 
-    // Looks at the schedule of a key: the best is then that one, or as before.
+    // Looks at the schedule of a key, unless it begins after the day: the best is then that one, or as before.
     fn consider<T: Timetable>(&mut self, timetable: &mut T, key: Key, day: u16)
         ensures best { (h : Record) → schedule_of (T.Timetable.map timetable.old) key ≡ Some h → held self.new.best ≡ (if takes h day (held self.old.best) then Some h else held self.old.best) }
         ensures same { timetable.new ≡ timetable.old }
     {
+        if day < key.from {
+            return;
+        }
         if timetable.find(key, &mut self.here) && takes_place(self.here.record(), day, &self.best) {
             self.best = Some(self.here);
         }

@@ -42,11 +42,11 @@ pub fn few_visits(calls: &[Location]) -> bool
 fn is_filler(call: &Location) -> bool
     ensures { result ≡ is_filler call.now }
 {
-    call.tiploc == *b"       "
-        && call.suffix == b' '
-        && call.arrival.is_none()
-        && call.departure.is_none()
-        && call.platform == *b"   "
+    (call.tiploc == *b"       ")
+        & (call.suffix == b' ')
+        & call.arrival.is_none()
+        & call.departure.is_none()
+        & (call.platform == *b"   ")
 }
 
 // Whether all calls are fillers.
