@@ -2,3 +2,4 @@ pub mod Refusals
 pub mod Rows
 pub mod Fields
 pub mod Reading
+pub mod Texts

@@ -1,6 +1,7 @@
 // Why a call is turned away, and where.
-ghost use Rattle.std.specs.Prelude.{◌≡◌};
+ghost use Rattle.std.specs.Prelude.{◌≡◌, Some};
 ghost use Rattle.cif.specs.Refusals.{number_of, fault_at, in_row, raised};
+ghost use Rattle.cif.specs.Texts.{words_of};
 
 use std::error::Error;
 use std::fmt;
@@ -44,6 +45,8 @@ impl Refusal {
 }
 
 impl fmt::Display for Refusal {
+    ghost output = { λ refusal. Some (words_of refusal) };
+
     fn fmt<W: fmt::Write>(&self, f: &mut fmt::Formatter<W>) -> fmt::Result {
         f.write_str(match self {
             Refusal::RowLength => "the row is not 80 bytes",
