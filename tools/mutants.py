@@ -4,6 +4,7 @@ Only code is edited: bodies of functions, and the values of constants and of enu
 """
 
 import collections
+import os
 import re
 
 Token = collections.namedtuple("Token", "kind text start end")
@@ -29,7 +30,7 @@ def tokens(text):
 
 class Source:
     def __init__(self, file, text):
-        self.file, self.text, self.mutants = file, text, []
+        self.file, self.text, self.mutants, self.words = file, text, [], collections.defaultdict(set)
         self.t = tokens(text)
         self.match = self.pairs()
         self.find()
@@ -50,13 +51,14 @@ class Source:
 
     def add(self, scope, kind, edits, said):
         line = self.text.count("\n", 0, edits[0][0]) + 1
-        self.mutants.append(Mutant(self.file, line, scope, kind, edits, " ".join(said.split())))
+        self.mutants.append(Mutant(self.file, line, scope, kind, edits, re.sub(r"\s*\n\s*", " ", said)))
 
     def swap(self, scope, kind, one, other):
-        """Exchanges two spans of text."""
+        """Exchanges two spans of text. (An arm that is a block may lack the comma that another needs.)"""
         a, b = self.text[slice(*one)], self.text[slice(*other)]
+        comma = lambda at, new: "," * (kind == "arms" and self.text[at] != "," and not new.startswith("{"))
         if a.split() != b.split():
-            self.add(scope, kind, [(*one, b), (*other, a)], f"`{a}` and `{b}` exchanged")
+            self.add(scope, kind, [(*one, b + comma(one[1], b)), (*other, a + comma(other[1], a))], f"`{a}` and `{b}` exchanged")
 
     def span(self, first, past):
         """Returns the text of tokens, from the first to the last before `past`."""
@@ -109,6 +111,7 @@ class Source:
                 result = result[:1]
             k = self.match[k] + 1 if self.at(k) in "([" else k + 1
         gives = self.text[self.t[result[0]].start : self.t[k].start].split("\n")[0].strip() if result else ""
+        self.words[name].update(t.text for t in self.t[k : self.match[k]])
         # (a body that is only 0 is that of a law, whose number nobody reads)
         if self.match[k] != k + 2 or self.at(k + 1) != "0":
             self.early(name, k, gives)
@@ -249,6 +252,19 @@ class Source:
 def mutants(file, text):
     """Returns the mutants of a file, in a fixed order."""
     return sorted(set_of(Source(file, text).mutants), key=lambda m: (m.edits[0][0], m.kind, m.edits))
+
+
+def calls(folder):
+    """Returns for each function of a crate the names of those that it calls, and that these call in turn."""
+    found = collections.defaultdict(set)
+    for name in sorted(os.listdir(folder)):
+        with open(f"{folder}/{name}", encoding="utf-8") as it:
+            for scope, words in Source(name, it.read()).words.items():
+                found[scope] |= words
+    named = {scope: words & set(found) for scope, words in found.items()}
+    for _ in named:
+        named = {scope: below.union(*(named[it] for it in below)) for scope, below in named.items()}
+    return collections.defaultdict(set, named)
 
 
 def set_of(found):
