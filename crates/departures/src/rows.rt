@@ -9,7 +9,8 @@ use cif::reading::read;
 use cif::refusal::{Refusal, RowFault};
 use controller::answer::Answer;
 use files::Rows;
-use std::fs;
+use std::io::{BufWriter, Write};
+use std::{fs, io};
 
 const REFUSALS: [Refusal; 15] = [
     Refusal::RowLength,
@@ -120,39 +121,40 @@ impl Tally {
     }
 }
 
-fn print_row(
-    rt: &HostRuntime,
+fn write_row<W: Write + Drop>(
+    out: &mut W,
     number: usize,
     outcome: &Result<Content, RowFault>,
-) -> anyhow::Result<()> {
+) -> io::Result<()> {
     match outcome {
         Ok(content) => {
             let words = Words(content);
-            println!(rt; "row {number}: {words}")?;
+            writeln!(out, "row {number}: {words}")
         }
         Err(fault) => {
             let words = FaultWords(fault);
             let refusal = fault.fault.refusal;
-            println!(rt; "row {number}: {words}: {refusal}")?;
+            writeln!(out, "row {number}: {words}: {refusal}")
         }
     }
-    Ok(())
 }
 
 // Prints each row of a file, and how many there were.
 pub fn print_file(rt: &HostRuntime, name: &str) -> anyhow::Result<Tally> {
     let bytes = fs::read(rt, name)?;
-    println!(rt; "file {name}")?;
+    let mut out = BufWriter::new(rt.alloc(), io::writer(rt))?;
+    writeln!(out, "file {name}")?;
     let mut tally = Tally::new();
     for (place, row) in Rows::new(bytes.as_slice()).enumerate() {
         let outcome = read(row);
         tally.note(&outcome);
-        print_row(rt, place + 1, &outcome)?;
+        write_row(&mut out, place + 1, &outcome)?;
     }
     let rows = tally.rows();
     let read = tally.done;
     let refused = tally.all_refused();
-    println!(rt; "rows {rows}: read {read}, refused {refused}")?;
+    writeln!(out, "rows {rows}: read {read}, refused {refused}")?;
+    out.flush()?;
     Ok(tally)
 }
 
