@@ -1,5 +1,6 @@
 //! Files, and the rows in them.
 
+use crate::tally::Tally;
 use std::ffi::OsStr;
 use std::fs;
 use std::io::{self, Write};
@@ -15,6 +16,22 @@ pub fn print_name(name: &OsStr, out: &mut impl Write) -> io::Result<()> {
     out.write_all(b"file ")?;
     out.write_all(name.as_encoded_bytes())?;
     writeln!(out)
+}
+
+/// Prints the name of a file, and what the caller prints of each of its rows, by their numbers. The
+/// tally is of what the caller counts.
+pub fn print_rows<W: Write>(
+    name: &OsStr,
+    bytes: &[u8],
+    out: &mut W,
+    mut print: impl FnMut(&[u8], usize, &mut Tally, &mut W) -> io::Result<()>,
+) -> io::Result<Tally> {
+    print_name(name, out)?;
+    let mut tally = Tally::default();
+    for (row, number) in rows_of(bytes).zip(1..) {
+        print(row, number, &mut tally, out)?;
+    }
+    Ok(tally)
 }
 
 /// The rows of a file: each ends at a line feed, which is not part of it, and a last row

@@ -1,6 +1,6 @@
 //! The report over files of rows.
 
-use crate::files::{self, rows_of};
+use crate::files;
 use crate::row::Row;
 use crate::tally::Tally;
 use std::ffi::{OsStr, OsString};
@@ -21,20 +21,21 @@ pub fn print(names: &[OsString], out: &mut impl Write) -> io::Result<()> {
 }
 
 fn print_file(name: &OsStr, bytes: &[u8], out: &mut impl Write) -> io::Result<Tally> {
-    files::print_name(name, out)?;
-    let mut tally = Tally::default();
-    for (row, number) in rows_of(bytes).zip(1..) {
-        match Row::read(row) {
+    let tally = files::print_rows(
+        name,
+        bytes,
+        out,
+        |row, number, tally, out| match Row::read(row) {
             Ok((identity, row)) => {
                 tally.add_taken();
-                writeln!(out, "row {number}: {identity} {row}")?;
+                writeln!(out, "row {number}: {identity} {row}")
             }
             Err(refusal) => {
                 tally.add_refused(refusal.reason);
-                writeln!(out, "row {number}: {refusal}")?;
+                writeln!(out, "row {number}: {refusal}")
             }
-        }
-    }
+        },
+    )?;
     writeln!(out, "{}", tally.told(READ))?;
     Ok(tally)
 }

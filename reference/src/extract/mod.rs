@@ -6,7 +6,7 @@ mod pending;
 pub mod stage;
 
 use crate::board;
-use crate::files::{self, rows_of};
+use crate::files;
 use crate::stores;
 use crate::stores::store::Store;
 use crate::tally::Tally;
@@ -63,14 +63,13 @@ impl Request {
         bytes: &[u8],
         out: &mut impl Write,
     ) -> io::Result<Tally> {
-        files::print_name(name, out)?;
-        let mut tally = Tally::default();
-        for (row, number) in rows_of(bytes).zip(1..) {
-            print_row(controller, row, number, &mut tally, out)?;
+        let tally = files::print_rows(name, bytes, out, |row, number, tally, out| {
+            print_row(controller, row, number, tally, out)?;
             if controller.stage() == Stage::Complete {
                 self.print_end(controller, out)?;
             }
-        }
+            Ok(())
+        })?;
         if controller.stage() != Stage::Idle {
             self.print_end(controller, out)?;
         }

@@ -4,7 +4,7 @@ use crate::board;
 use crate::board::turned::Board;
 use crate::extract::controller::Controller;
 use crate::extract::stage::Stage;
-use crate::files::{self, rows_of};
+use crate::files;
 use crate::stores::store::Store;
 use crate::tally::Tally;
 use std::ffi::{OsStr, OsString};
@@ -71,11 +71,9 @@ impl Run<'_> {
         bytes: &[u8],
         out: &mut impl Write,
     ) -> io::Result<Tally> {
-        files::print_name(name, out)?;
-        let mut tally = Tally::default();
-        for (row, number) in rows_of(bytes).zip(1..) {
-            self.print_row(row, number, &mut tally, out)?;
-        }
+        let tally = files::print_rows(name, bytes, out, |row, number, tally, out| {
+            self.print_row(row, number, tally, out)
+        })?;
         if self.controller.stage() != Stage::Idle {
             self.print_abandoned("end of file", out)?;
         }
