@@ -1,4 +1,4 @@
-// Departure boards: which lines stand on the glass.
+// Departure boards: which lines a station shows on a day.
 #![tactic(auto)]
 
 pub mod display;

@@ -12,7 +12,7 @@ use Rattle.cif.specs.declared.identity.Identity.{Identity}
 use Rattle.cif.specs.declared.identity.Identity.TheVariants.{Header, BasicSchedule, BasicExtra, Origin, Intermediate, Terminus, ChangeEnRoute, LocationInsert, LocationAmend, LocationDelete, Association, Trailer}
 use Rattle.cif.specs.declared.content.BasicSchedule.{BasicSchedule as Schedule}
 use Rattle.cif.specs.declared.content.Running.{Running}
-use Rattle.cif.specs.Refusals.{number_of, fault_at, in_row, Line, line, uppermost, missing, lacks, formed, then, raised, fault_of}
+use Rattle.cif.specs.Refusals.{number_of, fault_at, in_row, TableLine, line, uppermost, missing, lacks, formed, then, raised, fault_of}
 use Rattle.cif.specs.Rows.{identity_in, first_bad, column_or0}
 use Rattle.cif.specs.declared.content.Header.{Header as HeaderFields}
 use Rattle.cif.specs.declared.content.Location.{Location}
@@ -88,7 +88,7 @@ module _ (ui : Option ℕ) (fr to : Option (ℕ × ℕ)) (da : Option (List Bool
       then (formed 3 tr) (λ t. then (formed 4 ui) (λ u. then (formed 10 fr) (λ f. then (change_in t running) (λ c. then (formed 80 st) (λ s.
       cond (runs_on f c) (Ok (record { uid = u; from = f; stp = s; change = c })) (Err (fault_at EndsBeforeStart 16)))))))
 
-  abbrev lines : Option Transaction → List Line
+  abbrev lines : Option Transaction → List TableLine
   lines tr =
       lacks 3 tr ∷ lacks 4 ui ∷ lacks 10 fr ∷ only_if (reads_all tr) (lacks 16 to) ∷ only_if (reads_all tr) (lacks 22 da) ∷ only_if (reads_all tr) (lacks 33 tn)
       ∷ lacks 80 st ∷ only_if (reads_all tr) (line EndsBeforeStart 16 (ends_before fr to)) ∷ []
@@ -139,11 +139,11 @@ raised_told f (Ok x) = refl
 raised_told f (Err e) = refl
 
 -- lines whose refusals are told with the row's identity
-abbrev pub Late : List Line → Type 0
+abbrev pub Late : List TableLine → Type 0
 Late [] = Unit {0}
 Late (l ∷ ls) = (leb (number_of l.0.refusal) 3 ≡ false) × Late ls
 
-pub late_told : (row : List ℕ) (ls : List Line) → Late ls → option_map (in_row (letters_in row)) (uppermost ls) ≡ option_map (told_in row) (uppermost ls)
+pub late_told : (row : List ℕ) (ls : List TableLine) → Late ls → option_map (in_row (letters_in row)) (uppermost ls) ≡ option_map (told_in row) (uppermost ls)
 late_told row [] late = refl
 late_told row ((f, true) ∷ ls) late = ap (λ (b : Bool). Some (in_row (cond b blanks (letters_in row)) f)) (sym late.0)
 late_told row ((f, false) ∷ ls) late = late_told row ls late.1
@@ -169,7 +169,7 @@ whole_of long bad id =
     (elim bad [ Some column ↦ Err (fault_at BadByte column) | None ↦ elim id [ Some i ↦ Ok i | None ↦ Err (fault_at UnknownIdentity 1) ] ])
     (Err (fault_at RowLength 0))
 
-abbrev whole_lines : Bool → Option ℕ → Option Identity → List Line
+abbrev whole_lines : Bool → Option ℕ → Option Identity → List TableLine
 whole_lines long bad id = line RowLength 0 (not long) ∷ line BadByte (column_or0 bad) (not (missing bad)) ∷ line UnknownIdentity 1 (missing id) ∷ []
 
 pub read_told : (row : List ℕ) → fault_of (read_in row) ≡ by_table row

@@ -8,7 +8,7 @@ use Rattle.cif.specs.declared.identity.Identity.{Identity}
 use Rattle.cif.specs.declared.identity.Identity.TheVariants.{Header, BasicSchedule, BasicExtra, Origin, Intermediate, Terminus, ChangeEnRoute, LocationInsert, LocationAmend, LocationDelete, Association, Trailer}
 use Rattle.cif.specs.declared.content.Content.{Content}
 use Rattle.cif.specs.declared.content.Content.TheVariants.{Header as OfHeader, Schedule as OfSchedule, Operator as OfOperator, Origin as OfOrigin, Intermediate as OfIntermediate, Terminus as OfTerminus, Unread}
-use Rattle.cif.specs.Refusals.{number_of, in_row, Line, uppermost, then, raised, fault_of}
+use Rattle.cif.specs.Refusals.{number_of, in_row, TableLine, uppermost, then, raised, fault_of}
 use Rattle.cif.specs.Rows.{identity_in, row_lines, whole_in}
 use Rattle.cif.specs.Fields.{header_in, header_lines, schedule_in, schedule_lines, operator_in, operator_lines, origin_in, end_lines, intermediate_in, intermediate_lines, terminus_in}
 
@@ -42,7 +42,7 @@ read_in row =
     raised (in_row (letters_in row)) (content_in i row))
 
 -- the lines of the fields that a row of an identity has read
-abbrev pub field_lines : Identity → List ℕ → List Line
+abbrev pub field_lines : Identity → List ℕ → List TableLine
 field_lines Header row = header_lines row
 field_lines BasicSchedule row = schedule_lines row
 field_lines BasicExtra row = operator_lines row
@@ -57,12 +57,12 @@ field_lines Association row = []
 field_lines Trailer row = []
 
 -- the same, and none where the identity is not known
-abbrev pub field_lines_in : Option Identity → List ℕ → List Line
+abbrev pub field_lines_in : Option Identity → List ℕ → List TableLine
 field_lines_in (Some i) row = field_lines i row
 field_lines_in None row = []
 
 -- the table of a row by itself
-abbrev pub reading_lines : List ℕ → List Line
+abbrev pub reading_lines : List ℕ → List TableLine
 reading_lines row = row_lines row ++ field_lines_in (identity_in row) row
 
 -- a fault is told with the row's identity, the numbers 1 to 3 with blanks

@@ -32,15 +32,15 @@ abbrev pub in_row : List ℕ → ColumnFault → RowFault
 in_row identity fault = record { fault = fault; identity = identity }
 
 -- a line of a table of refusals: what is told, and whether its condition holds
-abbrev pub Line : Type 0
-Line = (ColumnFault × Bool)
+abbrev pub TableLine : Type 0
+TableLine = (ColumnFault × Bool)
 
 -- a line, by the refusal and column that it tells
-abbrev pub line : Refusal → ℕ → Bool → Line
+abbrev pub line : Refusal → ℕ → Bool → TableLine
 line refusal column holds = (fault_at refusal column, holds)
 
 -- of the lines of a table the uppermost that holds is told
-abbrev pub uppermost : List Line → Option ColumnFault
+abbrev pub uppermost : List TableLine → Option ColumnFault
 uppermost [] = None
 uppermost (l ∷ ls) = cond l.1 (Some l.0) (uppermost ls)
 
@@ -50,7 +50,7 @@ missing (Some x) = false
 missing None = true
 
 -- the line of a field: it lacks its form
-abbrev pub lacks : {X : Type 0} → ℕ → Option X → Line
+abbrev pub lacks : {X : Type 0} → ℕ → Option X → TableLine
 lacks column reading = line BadForm column (missing reading)
 
 -- a field's reading, or the fault that it lacks its form

@@ -8,7 +8,7 @@ use Rattle.std.specs.Option.{option_map}
 use Rattle.cif.specs.declared.identity.UnknownIdentity.{UnknownIdentity as NoIdentity}
 use Rattle.cif.specs.declared.identity.Identity.{Identity}
 use Rattle.cif.specs.declared.identity.Identity.TheVariants.{Header, BasicSchedule, BasicExtra, Origin, Intermediate, Terminus, ChangeEnRoute, LocationInsert, LocationAmend, LocationDelete, Association, Trailer}
-use Rattle.cif.specs.Refusals.{Line, line, missing, fault_at}
+use Rattle.cif.specs.Refusals.{TableLine, line, missing, fault_at}
 
 -- the two letters of each identity
 abbrev pub letters_of : Identity → List ℕ
@@ -60,7 +60,7 @@ column_or0 (Some column) = column
 column_or0 None = 0
 
 -- the lines of the table that ask nothing but the row
-abbrev pub row_lines : List ℕ → List Line
+abbrev pub row_lines : List ℕ → List TableLine
 row_lines row =
     line RowLength 0 (not (length row == 80))
     ∷ line BadByte (column_or0 (first_bad row)) (not (missing (first_bad row)))

@@ -8,7 +8,7 @@ use Rattle.cif.specs.declared.identity.Identity.{Identity}
 use Rattle.cif.specs.declared.refusal.Refusal.TheVariants.{RowLength, BadByte, UnknownIdentity, OutOfPlace}
 use Rattle.cif.specs.declared.refusal.ColumnFault.{ColumnFault}
 use Rattle.cif.specs.declared.refusal.RowFault.{RowFault}
-use Rattle.cif.specs.Refusals.{in_row, Line, line, uppermost, missing, then, raised, fault_of}
+use Rattle.cif.specs.Refusals.{in_row, TableLine, line, uppermost, missing, then, raised, fault_of}
 use Rattle.cif.specs.Rows.{identity_in, first_bad, column_or0, whole_in}
 use Rattle.cif.specs.Reading.{letters_in, blanks, content_in, read_in, field_lines, field_lines_in, told_in}
 use Rattle.cif.proofs.Results.{ok_is, err_ok}
@@ -22,7 +22,7 @@ use Rattle.extract.specs.Judging.{Standing, judged, admitted, taken_unless, cont
 use Rattle.extract.proofs.Lines.{first_told, next_told}
 use Rattle.controller.specs.Calls.{misfits, held_lines, value_in, heard_by}
 
-late_both : (xs ys : List Line) → Late xs → Late ys → Late (xs ++ ys)
+late_both : (xs ys : List TableLine) → Late xs → Late ys → Late (xs ++ ys)
 late_both [] ys p q = q
 late_both (x ∷ xs) ys p q = (p.0, late_both xs ys p.1 q)
 
@@ -47,7 +47,7 @@ held_late : (s : Standing) (o : Option Content) → Late (held_lines s o)
 held_late s (Some c) = content_late s c
 held_late s None = tt
 
-judged_told : {X : Type 0} (ls : List Line) (x : X) → fault_of (judged ls x) ≡ uppermost ls
+judged_told : {X : Type 0} (ls : List TableLine) (x : X) → fault_of (judged ls x) ≡ uppermost ls
 judged_told ls x = of (uppermost ls)
   where
     of : (o : Option ColumnFault) → fault_of (elim o [ Some f ↦ Err f | None ↦ Ok x ]) ≡ o
@@ -55,7 +55,7 @@ judged_told ls x = of (uppermost ls)
     of None = refl
 
 -- the lines of a row of an identity, from its place on
-abbrev placed : Bool → Standing → Identity → List ℕ → List Line
+abbrev placed : Bool → Standing → Identity → List ℕ → List TableLine
 placed misplaced s i row = line OutOfPlace 1 misplaced ∷ (field_lines i row ++ (held_lines s (value_in (content_in i row)) ++ []))
 
 placed_late : (misplaced : Bool) (s : Standing) (i : Identity) (row : List ℕ) → Late (placed misplaced s i row)
@@ -70,7 +70,7 @@ taken_told false s i row = of (content_in i row) (content_told i row)
     of (Ok c) h = judged_told (content_lines s c) (after s.extract c) ∙ sym (next_told (field_lines i row) (content_lines s c ++ []) (sym h) ∙ ap uppermost (append-nil (content_lines s c)))
 
 module _ (misplaced : Stage → Identity → Bool) (s : Standing) (row : List ℕ) where
-  abbrev lines : Bool → Option ℕ → Option Identity → Option Content → List Line
+  abbrev lines : Bool → Option ℕ → Option Identity → Option Content → List TableLine
   lines long bad id held =
       (line RowLength 0 (not long) ∷ line BadByte (column_or0 bad) (not (missing bad)) ∷ line UnknownIdentity 1 (missing id) ∷ [])
       ++ (line OutOfPlace 1 (misfits misplaced s.extract.stage id) ∷ (field_lines_in id row ++ (held_lines s held ++ [])))

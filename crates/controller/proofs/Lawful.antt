@@ -2,7 +2,7 @@
 use Rattle.std.proofs.Common.{◌≡◌, ◌≤◌, Bool, true, false, cond, List, [], ◌∷◌, ◌++◌, length, take, Some, None, Option, sym, refl, ap, subst, append-nil, arith, MatchOption}
 use Rattle.std.proofs.lemmas.List.{take_more_set}
 use Rattle.cif.specs.declared.refusal.ColumnFault.{ColumnFault}
-use Rattle.cif.specs.Refusals.{Line, uppermost}
+use Rattle.cif.specs.Refusals.{TableLine, uppermost}
 use Rattle.schedule.specs.Records.{kept_calls}
 use Rattle.schedule.specs.Building.{is_kept, adds_call, with_call}
 use Rattle.overlay.specs.Overlays.{done_all}
@@ -22,7 +22,7 @@ told_uppermost ((f, false) ∷ ls) = of (uppermost ls) (told_uppermost ls)
   where
     of : (o : Option ColumnFault) → MatchOption o (none_holds ls ≡ true) (λ f. IsUppermost ls f) → MatchOption o (none_holds ((f, false) ∷ ls) ≡ true) (λ g. IsUppermost ((f, false) ∷ ls) g)
     of None h = h
-    of (Some g) h = record { above = (f, false) ∷ h.above; below = h.below; stands = ap (λ (xs : List Line). (f, false) ∷ xs) h.stands; first = h.first }
+    of (Some g) h = record { above = (f, false) ∷ h.above; below = h.below; stands = ap (λ (xs : List TableLine). (f, false) ∷ xs) h.stands; first = h.first }
 
 pub in_row_order : CallsInRowOrder
 in_row_order r l long room runs = of (is_kept l) refl

@@ -6,7 +6,7 @@ use Rattle.cif.specs.declared.identity.Identity.{Identity}
 use Rattle.cif.specs.declared.refusal.Refusal.TheVariants.{OutOfPlace}
 use Rattle.cif.specs.declared.refusal.ColumnFault.{ColumnFault}
 use Rattle.cif.specs.declared.refusal.RowFault.{RowFault}
-use Rattle.cif.specs.Refusals.{Line, line, uppermost, then, raised, in_row}
+use Rattle.cif.specs.Refusals.{TableLine, line, uppermost, then, raised, in_row}
 use Rattle.cif.specs.Rows.{row_lines, identity_in, whole_in}
 use Rattle.cif.specs.Reading.{read_in, field_lines_in, told_in, letters_in, blanks}
 use Rattle.board.specs.Turning.{turn_lines, slot_lines}
@@ -29,7 +29,7 @@ pub data Call : Type 0 where
   Tally : Call
 
 -- the lines of the table that a call's row gives, if it has a row
-abbrev pub on_row : Call → (List ℕ → List Line) → List Line
+abbrev pub on_row : Call → (List ℕ → List TableLine) → List TableLine
 on_row (Open row) lines = lines row
 on_row (Row row) lines = lines row
 on_row Confirm lines = []
@@ -70,12 +70,12 @@ value_in (Ok x) = Some x
 value_in (Err e) = None
 
 -- the lines of the table that ask for what a row holds, if it can be read
-abbrev pub held_lines : Standing → Option Content → List Line
+abbrev pub held_lines : Standing → Option Content → List TableLine
 held_lines s (Some c) = content_lines s c
 held_lines s None = []
 
 -- the lines of the table that ask for the board; with a call that is given none, any number may stand for its line slots
-abbrev pub board_lines : Call → ℕ → ℕ → List Line
+abbrev pub board_lines : Call → ℕ → ℕ → List TableLine
 board_lines (Open row) slots capacity = []
 board_lines (Row row) slots capacity = []
 board_lines Confirm slots capacity = slot_lines slots capacity
@@ -85,11 +85,11 @@ board_lines (Tell place) slots capacity = []
 board_lines Tally slots capacity = []
 
 -- those lines of the table that can hold of a confirmation: the extract is not complete, or the line slots are too few
-abbrev pub confirm_lines : Standing → ℕ → List Line
+abbrev pub confirm_lines : Standing → ℕ → List TableLine
 confirm_lines s slots = line OutOfPlace 0 (not (is_stage s.extract.stage Complete)) ∷ slot_lines slots s.capacity
 
 -- THE TABLE OF REFUSALS, in the order of its lines, over what a call is judged by and the board's line slots
-abbrev pub refusals : Call → Standing → ℕ → List Line
+abbrev pub refusals : Call → Standing → ℕ → List TableLine
 refusals call s slots =
     on_row call row_lines  -- 1 to 3: length, bytes, identity
     ++ (line OutOfPlace (place_column call) (is_out_of_place call s.extract.stage)  -- 4

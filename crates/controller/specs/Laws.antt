@@ -4,7 +4,7 @@ use Rattle.cif.specs.declared.content.Location.{Location}
 use Rattle.cif.specs.declared.identity.Identity.{Identity}
 use Rattle.cif.specs.declared.identity.Identity.TheVariants.{Header, BasicSchedule, BasicExtra, Origin, Intermediate, Terminus, ChangeEnRoute, LocationInsert, LocationAmend, LocationDelete, Association, Trailer}
 use Rattle.cif.specs.declared.refusal.ColumnFault.{ColumnFault}
-use Rattle.cif.specs.Refusals.{Line, uppermost}
+use Rattle.cif.specs.Refusals.{TableLine, uppermost}
 use Rattle.schedule.specs.declared.record.Record.{Record}
 use Rattle.schedule.specs.Records.{kept_calls, is_cancellation}
 use Rattle.schedule.specs.Building.{is_kept, with_call}
@@ -23,20 +23,20 @@ abbrev pub PendingFits : Type 0
 PendingFits = (m : List Record) (capacity : ℕ) (rows : List (List ℕ)) (p : Progress) → Agrees m capacity rows p → (k : ℕ) → length (done_all m (take k (transactions_of rows))) ≤ capacity
 
 -- no line of a table holds
-abbrev pub none_holds : List Line → Bool
+abbrev pub none_holds : List TableLine → Bool
 none_holds [] = true
 none_holds (l ∷ ls) = not l.1 && none_holds ls
 
 -- a fault stands in a line that holds, and no line above it does
-pub record IsUppermost (ls : List Line) (f : ColumnFault) : Type 0 where
-  pub above : List Line
-  pub below : List Line
+pub record IsUppermost (ls : List TableLine) (f : ColumnFault) : Type 0 where
+  pub above : List TableLine
+  pub below : List TableLine
   pub stands : ls ≡ above ++ (f, true) ∷ below
   pub first : none_holds above ≡ true
 
 -- what a table tells stands in its uppermost line that holds, and it tells nothing exactly when no line holds
 abbrev pub UppermostIsTold : Type 0
-UppermostIsTold = (ls : List Line) → MatchOption (uppermost ls) (none_holds ls ≡ true) (λ f. IsUppermost ls f)
+UppermostIsTold = (ls : List TableLine) → MatchOption (uppermost ls) (none_holds ls ≡ true) (λ f. IsUppermost ls f)
 
 -- rows that neither begin nor end a schedule: all but BS and LT
 abbrev pub is_passing : Identity → Bool

@@ -1,28 +1,16 @@
 // Reads files of rows in the CIF layout, and prints what they hold.
 #![tactic(auto)]
 
+use feeding::extracts::Extracts;
+use feeding::follow::Followed;
+use feeding::{extracts, follow, replay};
+use listing::keeping::Both;
+use listing::{boards, keeping, rows};
 use std::env;
 use stores::bag::Bag;
 use stores::table::Table;
-use timetable::Store;
-
-mod answers;
-mod boards;
-mod changes;
-mod drafts;
-mod extracts;
-mod follow;
-mod keeping;
-mod replay;
-mod rows;
-mod scripts;
-mod tasks;
-mod words;
-
-use extracts::Extracts;
-use follow::Followed;
-use keeping::Both;
 use tasks::{StoreKind, Task, Wanted, Work};
+use timetable::Store;
 
 fn run_rows(rt: &HostRuntime, files: &[String]) -> anyhow::Result<()> {
     let mut total = rows::Tally::new();

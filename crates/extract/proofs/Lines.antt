@@ -1,20 +1,20 @@
 -- Tables of refusals, one after another.
 use Rattle.std.proofs.Common.{◌≡◌, true, false, List, [], ◌∷◌, ◌++◌, Some, None, Option, refl, ap, ◌∙◌}
 use Rattle.cif.specs.declared.refusal.ColumnFault.{ColumnFault}
-use Rattle.cif.specs.Refusals.{Line, uppermost}
+use Rattle.cif.specs.Refusals.{TableLine, uppermost}
 
 -- the first table's fault, or the second's
 abbrev pub or_next : Option ColumnFault → Option ColumnFault → Option ColumnFault
 or_next (Some f) o = Some f
 or_next None o = o
 
-pub uppermost_both : (xs ys : List Line) → uppermost (xs ++ ys) ≡ or_next (uppermost xs) (uppermost ys)
+pub uppermost_both : (xs ys : List TableLine) → uppermost (xs ++ ys) ≡ or_next (uppermost xs) (uppermost ys)
 uppermost_both [] ys = refl
 uppermost_both ((f, true) ∷ xs) ys = refl
 uppermost_both ((f, false) ∷ xs) ys = uppermost_both xs ys
 
-pub first_told : (xs ys : List Line) (f : ColumnFault) → uppermost xs ≡ Some f → uppermost (xs ++ ys) ≡ Some f
+pub first_told : (xs ys : List TableLine) (f : ColumnFault) → uppermost xs ≡ Some f → uppermost (xs ++ ys) ≡ Some f
 first_told xs ys f h = uppermost_both xs ys ∙ ap (λ o. or_next o (uppermost ys)) h
 
-pub next_told : (xs ys : List Line) → uppermost xs ≡ None → uppermost (xs ++ ys) ≡ uppermost ys
+pub next_told : (xs ys : List TableLine) → uppermost xs ≡ None → uppermost (xs ++ ys) ≡ uppermost ys
 next_told xs ys h = uppermost_both xs ys ∙ ap (λ o. or_next o (uppermost ys)) h

@@ -7,7 +7,7 @@ use Rattle.cif.specs.declared.content.Content.TheVariants.{Operator, Origin, Int
 use Rattle.cif.specs.declared.identity.Identity.{Identity}
 use Rattle.cif.specs.declared.identity.Identity.TheVariants.{Trailer, BasicExtra, Origin as IsOrigin, Intermediate as IsIntermediate, Terminus as IsTerminus}
 use Rattle.cif.specs.declared.refusal.Refusal.TheVariants.{OutOfPlace, TooManyRows, StoreFull}
-use Rattle.cif.specs.Refusals.{Line, line, uppermost, fault_at, then}
+use Rattle.cif.specs.Refusals.{TableLine, line, uppermost, fault_at, then}
 use Rattle.cif.specs.Fields.{operator_in, origin_in, intermediate_in, terminus_in}
 use Rattle.cif.specs.Reading.{content_in}
 use Rattle.schedule.specs.Building.{with_operator, with_call, with_destination, bringing, bringing_lines}
@@ -39,10 +39,10 @@ module _ (s : Standing) where
       go false e = rw (e, st) refl
 
   -- the lines of a location, with those that no location has left out
-  located : List Line → List Line
+  located : List TableLine → List TableLine
   located ls = ls ++ (line TooManyRows 1 ((leb 9999 s.extract.taken && true) || false) ∷ line StoreFull 1 false ∷ [])
 
-  located_same : (ls : List Line) → uppermost (located ls) ≡ uppermost (ls ++ room_lines s.extract.taken)
+  located_same : (ls : List TableLine) → uppermost (located ls) ≡ uppermost (ls ++ room_lines s.extract.taken)
   unfolding located
   located_same ls =
       uppermost_both ls (line TooManyRows 1 ((leb 9999 s.extract.taken && true) || false) ∷ line StoreFull 1 false ∷ [])
@@ -53,7 +53,7 @@ module _ (s : Standing) where
       tail false = refl
 
   -- a table and the value that it judges, each in the place of an equal one
-  judged_same : {X : Type 0} (ls ks : List Line) (x y : X) → uppermost ls ≡ uppermost ks → x ≡ y → judged ls x ≡ judged ks y
+  judged_same : {X : Type 0} (ls ks : List TableLine) (x y : X) → uppermost ls ≡ uppermost ks → x ≡ y → judged ls x ≡ judged ks y
   judged_same ls ks x y u e = ap (λ o. elim o [ Some f ↦ Err f | None ↦ Ok x ]) u ∙ ap (λ z. judged ks z) e
 
   pub origin_taken : (l : Location) → next_stage s.extract.stage IsOrigin false ≡ Some Running → admitted s (Origin l) ≡ judged (bringing_lines s.extract.draft l ++ room_lines s.extract.taken) (moved s.extract Running (bringing (λ r. with_call r l) s.extract.draft) [])

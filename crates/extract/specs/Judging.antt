@@ -13,7 +13,7 @@ use Rattle.cif.specs.declared.identity.Identity.{Identity}
 use Rattle.cif.specs.declared.identity.Identity.TheVariants.{Trailer, Header as IsHeader}
 use Rattle.cif.specs.declared.refusal.Refusal.TheVariants.{OutOfPlace, ReferenceMismatch, KeyPresent, KeyAbsent, TooManyRows, StoreFull}
 use Rattle.cif.specs.declared.refusal.ColumnFault.{ColumnFault}
-use Rattle.cif.specs.Refusals.{Line, line, uppermost, missing, fault_at, then}
+use Rattle.cif.specs.Refusals.{TableLine, line, uppermost, missing, fault_at, then}
 use Rattle.cif.specs.Reading.{content_in}
 use Rattle.schedule.specs.declared.record.Record.{Record}
 use Rattle.schedule.specs.Records.{seven_blanks}
@@ -95,7 +95,7 @@ abbrev pub is_full : Standing → Bool
 is_full s = length (overlay_in s) == s.capacity
 
 -- a location is judged by the schedule that is being read: a 49th kept call, a third kept call at one TIPLOC
-abbrev pub location_lines : Standing → Content → List Line
+abbrev pub location_lines : Standing → Content → List TableLine
 location_lines s (Header h) = []
 location_lines s (Schedule b) = []
 location_lines s (Operator o) = []
@@ -119,7 +119,7 @@ abbrev pub past_rows : Standing → Content → Bool
 past_rows s c = nat_le 9999 s.extract.taken && not (is_identity (identity_for c) Trailer)
 
 -- the lines of a BS, by whether it is new, its key is there, too many rows or transactions came before it, and the overlay is full
-abbrev pub change_lines : Bool → Bool → Bool → Bool → List Line
+abbrev pub change_lines : Bool → Bool → Bool → Bool → List TableLine
 change_lines new there many full =
     line KeyPresent 4 (new && there)
     ∷ line KeyAbsent 4 (not new && not there)
@@ -128,11 +128,11 @@ change_lines new there many full =
     ∷ []
 
 -- 9,999 rows are taken: the line of a row that is no BS and no ZZ
-abbrev pub room_lines : ℕ → List Line
+abbrev pub room_lines : ℕ → List TableLine
 room_lines taken = line TooManyRows 1 (nat_le 9999 taken) ∷ []
 
 -- the lines of the table that ask for the extract, the overlay or the reference: 7 to 13
-abbrev pub content_lines : Standing → Content → List Line
+abbrev pub content_lines : Standing → Content → List TableLine
 content_lines s c =
     line ReferenceMismatch 40 (references_fail s c)
     ∷ line KeyPresent 4 (is_new_with (is_there s) c)
@@ -143,7 +143,7 @@ content_lines s c =
     ∷ [])
 
 -- a value, unless a line of a table holds: the uppermost is told
-abbrev pub judged : {X : Type 0} → List Line → X → Result X ColumnFault
+abbrev pub judged : {X : Type 0} → List TableLine → X → Result X ColumnFault
 judged ls x = elim (uppermost ls) [ Some f ↦ Err f | None ↦ Ok x ]
 
 -- a row that was read is taken where no line holds
@@ -171,7 +171,7 @@ abbrev pub opened_by : Standing → Identity → List ℕ → Result Progress Co
 opened_by s i row = taken_unless (is_no_opening s.extract.stage i) s i row
 
 -- abandon has nothing to drop when idle
-abbrev pub idle_lines : Stage → List Line
+abbrev pub idle_lines : Stage → List TableLine
 idle_lines stage = line OutOfPlace 0 (is_stage stage Idle) ∷ []
 
 -- a call did what the rule says: the extract is what it gives, or it tells the rule's fault

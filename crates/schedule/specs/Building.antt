@@ -2,7 +2,7 @@
 use Rattle.std.specs.Prelude.{◌≡◌, ℕ, ◌+◌, Bool, cond, not, ◌&&◌, List, [], ◌∷◌, nat_le, slice_set}
 use Rattle.cif.specs.declared.content.Location.{Location}
 use Rattle.cif.specs.declared.refusal.Refusal.TheVariants.{TooManyCalls, TooManyVisits}
-use Rattle.cif.specs.Refusals.{Line, line}
+use Rattle.cif.specs.Refusals.{TableLine, line}
 use Rattle.schedule.specs.declared.key.Key.{Key}
 use Rattle.schedule.specs.declared.record.Record.{Record}
 use Rattle.schedule.specs.declared.schedule.Schedule.{Schedule}
@@ -54,7 +54,7 @@ with_call r l =
     r
 
 -- why a location cannot be taken: a 49th kept call, a third kept call at one TIPLOC
-abbrev pub call_lines : Record → Location → List Line
+abbrev pub call_lines : Record → Location → List TableLine
 call_lines r l =
     line TooManyCalls 3 (adds_call r l && nat_le 48 r.count)
     ∷ line TooManyVisits 3 (adds_call r l && nat_le 2 (visits l.tiploc (kept_calls r)))
@@ -73,7 +73,7 @@ Brings step (IsRevised s) after = (t : Schedule) × step s t × (after ≡ IsRev
 Brings step (IsDeleted k) after = after ≡ IsDeleted k
 
 -- why a location cannot be taken into the schedule that a transaction brings
-abbrev pub bringing_lines : Change → Location → List Line
+abbrev pub bringing_lines : Change → Location → List TableLine
 bringing_lines (New r) l = call_lines r l
 bringing_lines (Revise r) l = call_lines r l
 bringing_lines (Delete k) l = []

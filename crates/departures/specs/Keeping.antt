@@ -1,8 +1,0 @@
--- The two stores that are kept side by side.
-use Rattle.std.specs.Prelude.{◌≡◌}
-use Rattle.ordered.specs.Tables.{room}
-use Rattle.departures.specs.declared.keeping.Both.{Both}
-
--- each can hold as many schedules in the one pair as in the other
-abbrev pub SameRooms : Both → Both → Type 0
-SameRooms a b = (room b.table.rows.inner ≡ room a.table.rows.inner) × (room b.bag.rows.inner ≡ room a.bag.rows.inner)

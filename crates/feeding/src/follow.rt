@@ -1,0 +1,235 @@
+// Extracts that are followed: each is confirmed at its end, or abandoned where a row of it was refused.
+ghost use Rattle.std.specs.Prelude.{◌≡◌, ◌+◌, ◌*◌, ◌<◌, ◌≤◌, ◌||◌, false, true, cond, length, is_ok, IfOk};
+ghost use Rattle.ordered.specs.Tables.{room};
+ghost use Rattle.extract.specs.Progress.{idle};
+ghost use Rattle.extract.specs.Stages.{is_stage};
+ghost use Rattle.controller.specs.Shown.{progress_in};
+ghost use Rattle.overlay.specs.Settling.{tried_all};
+ghost use Rattle.extract.specs.declared.stage.Stage.TheVariants.{Idle, Complete};
+ghost use Rattle.listing.specs.Tallies.{counted};
+ghost use Rattle.feeding.specs.Following.{Follows, SameStoreAndBoard};
+
+use crate::extracts::{hand, print_fault};
+use board::display::Board;
+use board::line::Line;
+use cif::refusal::Refusal;
+use controller::controller::Controller;
+use controller::fault::ExtractFault;
+use extract::stage::Stage;
+use files::Rows;
+use listing::boards::{filled, print_lines, print_refused, shown_lines};
+use listing::rows::Tally;
+use std::fs;
+use tasks::{StoreKind, Wanted};
+use timetable::Store;
+
+// A controller with the board that follows it, and what came of the rows. Of the open extract it is kept how many rows were refused.
+#[derive(Drop)]
+pub struct Followed<'a, 'b, S> {
+    controller: Controller<S>,
+    board: Board<'b>,
+    most: usize,
+    wanted: Wanted<'a>,
+    has_station: bool,
+    refused: u64,
+    pub tally: Tally,
+}
+
+// What came of an extract.
+#[derive(Clone, Copy)]
+enum Outcome {
+    Confirmed,
+    Abandoned(u64),
+}
+
+impl<'a, 'b, S: Store + Drop> Followed<'a, 'b, S> {
+    // No extract is open, and the board has no station.
+    pub fn new(store: S, lines: &'b mut [Line], wanted: Wanted<'a>) -> Followed<'a, 'b, S>
+        ensures store { result.controller.overlay.store ≡ store }
+        ensures idle { progress_in result.controller ≡ idle }
+        ensures slots { room result.board.lines.inner ≡ length lines.old }
+        ensures follows { Follows S.Timetable.map result }
+    {
+        let most = lines.len();
+        Followed {
+            controller: Controller::new(store),
+            board: Board::new(lines),
+            most,
+            wanted,
+            has_station: false,
+            refused: 0,
+            tally: Tally::new(),
+        }
+    }
+
+    // Turns the board to what is wanted.
+    fn turned(&mut self, rt: &HostRuntime) -> anyhow::Result<Result<(), Refusal>>
+        ensures follows { Follows S.Timetable.map self.old → Follows S.Timetable.map self.new }
+        ensures controller { self.new.controller ≡ self.old.controller }
+        ensures unchanged { IfOk result (λ done. is_ok done ≡ false → self.new ≡ self.old) }
+    {
+        let wanted = self.wanted;
+        let Some(day) = wanted.day() else {
+            return Ok(Err(Refusal::NoSuchBoard));
+        };
+        let station = filled(rt, wanted.station)?;
+        match self
+            .controller
+            .turn(&mut self.board, station.as_slice(), day)
+        {
+            Ok(()) => {
+                self.has_station = true;
+                Ok(Ok(()))
+            }
+            Err(fault) => Ok(Err(fault.fault.fault.refusal)),
+        }
+    }
+
+    // Turns the board to what is wanted, and prints how many lines it has or why it cannot be turned.
+    pub fn turn(&mut self, rt: &HostRuntime) -> anyhow::Result<()>
+        ensures follows { Follows S.Timetable.map self.old → Follows S.Timetable.map self.new }
+        ensures controller { self.new.controller ≡ self.old.controller }
+    {
+        match self.turned(rt)? {
+            Ok(()) => self.print_count(rt),
+            Err(refusal) => print_refused(rt, "board ", refusal),
+        }
+    }
+
+    // Prints the station and date of the board, if it has them.
+    fn print_shown(&self, rt: &HostRuntime) -> anyhow::Result<()> {
+        if self.has_station {
+            let Wanted { station, date, .. } = self.wanted;
+            print!(rt; "board {station} {date}")?;
+        } else {
+            print!(rt; "board without a station")?;
+        }
+        Ok(())
+    }
+
+    // Prints how many lines the board has.
+    fn print_count(&mut self, rt: &HostRuntime) -> anyhow::Result<()>
+        ensures { self.new ≡ self.old }
+    {
+        self.print_shown(rt)?;
+        let lines = shown_lines(&mut self.board, self.most);
+        println!(rt; ": lines {lines}")?;
+        Ok(())
+    }
+
+    // Prints the board.
+    pub fn print_board(&mut self, rt: &HostRuntime) -> anyhow::Result<()>
+        ensures { self.new ≡ self.old }
+    {
+        self.print_shown(rt)?;
+        println!(rt; "")?;
+        print_lines(rt, &mut self.board, self.most)
+    }
+
+    // Confirms the open extract, or drops it where a row of it was refused or it is not complete.
+    fn end(&mut self) -> Outcome
+        ensures spoiled { 0 < self.old.refused → (result ≡ Outcome.Abandoned self.old.refused) × SameStoreAndBoard self.old self.new }
+        ensures whole { self.old.refused ≡ 0 → is_stage (progress_in self.old.controller).stage Complete ≡ true → 2 * S.Timetable.capacity self.old.controller.overlay.store ≤ room self.old.board.lines.inner → result ≡ Outcome.Confirmed }
+        ensures confirmed { result ≡ Outcome.Confirmed → S.Timetable.map self.new.controller.overlay.store ≡ tried_all (S.Timetable.capacity self.old.controller.overlay.store) (S.Timetable.map self.old.controller.overlay.store) (progress_in self.old.controller).changes }
+        ensures follows { Follows S.Timetable.map self.old → Follows S.Timetable.map self.new }
+        ensures idle { is_stage (progress_in self.old.controller).stage Idle ≡ false → progress_in self.new.controller ≡ idle }
+        ensures none { self.new.refused ≡ 0 }
+    {
+        let refused = self.refused;
+        self.refused = 0;
+        if refused == 0 && self.controller.confirm(&mut self.board).is_ok() {
+            return Outcome::Confirmed;
+        }
+        let _ = self.controller.abandon();
+        Outcome::Abandoned(refused)
+    }
+
+    // Ends the open extract, and prints what came of it, after the words for where it ended.
+    fn end_extract(&mut self, rt: &HostRuntime) -> anyhow::Result<()>
+        ensures spoiled { 0 < self.old.refused → SameStoreAndBoard self.old self.new }
+        ensures follows { Follows S.Timetable.map self.old → Follows S.Timetable.map self.new }
+        ensures idle { is_stage (progress_in self.old.controller).stage Idle ≡ false → progress_in self.new.controller ≡ idle }
+        ensures none { self.new.refused ≡ 0 }
+    {
+        let rows = self.controller.rows_taken();
+        let pending = self.controller.pending_count();
+        match self.end() {
+            Outcome::Confirmed => {
+                let tally = self.controller.tally();
+                println!(rt; "confirmed, rows {rows}, transactions {pending}, tally {tally}")?;
+                self.print_count(rt)
+            }
+            Outcome::Abandoned(refused) => {
+                println!(rt;
+                    "abandoned, rows {rows}, transactions {pending}, rows refused {refused}"
+                )?;
+                Ok(())
+            }
+        }
+    }
+
+    // Hands a row over and counts it. A refused row counts for the open extract, where one is open.
+    fn hear(&mut self, row: &[u8]) -> Result<(), ExtractFault>
+        ensures same { SameStoreAndBoard self.old self.new }
+        ensures refused { self.new.refused ≡ cond (is_ok result || is_stage (progress_in self.old.controller).stage Idle) self.old.refused (counted (self.old.refused + 1)) }
+    {
+        let is_open = self.controller.stage() != Stage::Idle;
+        let heard = hand(&mut self.controller, row);
+        match &heard {
+            Ok(()) => self.tally.note_done(),
+            Err(fault) => {
+                self.tally.note_refused(fault.fault.fault.refusal);
+                if is_open {
+                    self.refused = self.refused.saturating_add(1);
+                }
+            }
+        }
+        heard
+    }
+
+    // Hands a row over, and prints why it was refused if it was.
+    fn take_row(&mut self, rt: &HostRuntime, number: usize, row: &[u8]) -> anyhow::Result<()>
+        ensures { SameStoreAndBoard self.old self.new }
+    {
+        if let Err(fault) = self.hear(row) {
+            print_fault(rt, number, &fault)?;
+        }
+        Ok(())
+    }
+
+    // Hands the rows of a file over, and ends each extract where it is complete or the file ends.
+    pub fn take_file(&mut self, rt: &HostRuntime, name: &str) -> anyhow::Result<()>
+        ensures follows { Follows S.Timetable.map self.old → Follows S.Timetable.map self.new }
+        ensures idle { is_ok result ≡ true → is_stage (progress_in self.new.controller).stage Idle ≡ true }
+    {
+        let bytes = fs::read(rt, name)?;
+        println!(rt; "file {name}")?;
+        for (place, row) in Rows::new(bytes.as_slice()).enumerate() {
+            let number = place + 1;
+            self.take_row(rt, number, row)?;
+            if self.controller.stage() == Stage::Complete {
+                print!(rt; "row {number}: ")?;
+                self.end_extract(rt)?;
+            }
+        }
+        if self.controller.stage() != Stage::Idle {
+            print!(rt; "end of file: ")?;
+            self.end_extract(rt)?;
+        }
+        Ok(())
+    }
+}
+
+// Prints the store, and how many line slots its board has.
+pub fn print_head<S: Store>(
+    rt: &HostRuntime,
+    store: &mut S,
+    kind: StoreKind,
+    slots: usize,
+) -> anyhow::Result<()>
+    ensures { store.new ≡ store.old }
+{
+    let capacity = store.capacity();
+    println!(rt; "run store {kind}: capacity {capacity}, line slots {slots}")?;
+    Ok(())
+}

@@ -1,0 +1,5 @@
+use Rattle.std.proofs.Common.{◌≡◌}
+use Rattle.listing.proofs.boards.load_file.Given as goal
+
+abbrev pub invariant-loop-row : goal.invariant-loop-row
+invariant-loop-row g l = g.S.Timetable.capacity l.store ≡ g.S.Timetable.capacity l.initial.store

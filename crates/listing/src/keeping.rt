@@ -1,0 +1,172 @@
+// The schedules of files put into both stores.
+ghost use Rattle.std.specs.Prelude.{◌≡◌, true, min, [], length};
+ghost use Rattle.ordered.specs.Tables.{items, room};
+ghost use Rattle.schedule.specs.Records.{is_schedule};
+ghost use Rattle.listing.specs.Keeping.{SameRooms};
+
+use crate::drafts::{Asked, Draft};
+use cif::reading::read;
+use files::Rows;
+use forms::letters::Stp;
+use schedule::key::Key;
+use schedule::order::next_in_train;
+use schedule::record::Record;
+use schedule::schedule::Schedule;
+use std::fs;
+use stores::bag::Bag;
+use stores::table::Table;
+use timetable::{Store, Timetable};
+use wording::changes::{KeyWords, RecordWords};
+
+// The record of a cancellation that hides nothing, for slots that hold nothing yet.
+pub fn empty_record() -> Record
+    ensures { is_schedule result ≡ true }
+{
+    let blank = Record::from(Schedule::blank());
+    let key = Key {
+        stp: Stp::Cancellation,
+        ..blank.key
+    };
+    Record { key, ..blank }
+}
+
+// What two stores answered, where both answered the same.
+fn agreed(table: bool, bag: bool) -> Option<bool> {
+    if table == bag { Some(table) } else { None }
+}
+
+fn told(agreed: Option<bool>, good: &'static str, bad: &'static str) -> &'static str {
+    match agreed {
+        Some(true) => good,
+        Some(false) => bad,
+        None => "table and bag differ",
+    }
+}
+
+// A table and a bag, which are asked the same.
+#[derive(Drop)]
+pub struct Both<'a> {
+    table: Table<'a>,
+    bag: Bag<'a>,
+}
+
+impl<'a> Both<'a> {
+    // Two empty stores, each over its slots.
+    pub fn new(table: &'a mut [Record], bag: &'a mut [Record]) -> Both<'a>
+        ensures empty { (items result.table.rows.inner ≡ []) × (items result.bag.rows.inner ≡ []) }
+        ensures table { room result.table.rows.inner ≡ min (length table.old) 65535 }
+        ensures bag { room result.bag.rows.inner ≡ min (length bag.old) 65535 }
+    {
+        Both {
+            table: Table::new(table),
+            bag: Bag::new(bag),
+        }
+    }
+
+    fn put(&mut self, schedule: Schedule) -> Option<bool>
+        ensures { SameRooms self.old self.new }
+    {
+        let table = self.table.put(schedule).is_ok();
+        let bag = self.bag.put(schedule).is_ok();
+        agreed(table, bag)
+    }
+
+    fn remove(&mut self, key: Key) -> Option<bool>
+        ensures { SameRooms self.old self.new }
+    {
+        let table = self.table.remove(key);
+        let bag = self.bag.remove(key);
+        agreed(table, bag)
+    }
+
+    fn do_asked(&mut self, rt: &HostRuntime, asked: Asked) -> anyhow::Result<()>
+        ensures { SameRooms self.old self.new }
+    {
+        match asked {
+            Asked::Put(schedule) => {
+                let result = told(self.put(schedule), "done", "refused, the store is full");
+                let key = KeyWords(schedule.key());
+                println!(rt; "put {key}: {result}")?;
+            }
+            Asked::Unfit(key) => {
+                let key = KeyWords(key);
+                println!(rt; "put {key}: not a schedule")?;
+            }
+            Asked::Remove(key) => {
+                let result = told(self.remove(key), "yes", "no");
+                let key = KeyWords(key);
+                println!(rt; "remove {key}: {result}")?;
+            }
+        }
+        Ok(())
+    }
+
+    // Does what the rows of a file ask. Both capacities stay.
+    pub fn take_file(&mut self, rt: &HostRuntime, name: &str) -> anyhow::Result<()>
+        ensures { SameRooms self.old self.new }
+    {
+        let bytes = fs::read(rt, name)?;
+        let mut draft = Draft::new();
+        for row in Rows::new(bytes.as_slice()) {
+            if let Ok(content) = read(row)
+                && let Some(asked) = draft.take(content)
+            {
+                self.do_asked(rt, asked)?;
+            }
+        }
+        Ok(())
+    }
+
+    // Prints what the table holds in key order, and says whether the bag holds the same.
+    fn print_rows(&mut self, rt: &HostRuntime) -> anyhow::Result<bool>
+        ensures { self.new ≡ self.old }
+    {
+        let mut same = self.table.count() == self.bag.count();
+        let mut probe = Key {
+            uid: 0,
+            from: 0,
+            stp: Stp::Cancellation,
+        };
+        for _ in 0..self.table.count() {
+            let Some(plain) = least(&mut self.table, probe) else {
+                return Ok(false);
+            };
+            let words = RecordWords(&plain);
+            println!(rt; "{words}")?;
+            same = same && least(&mut self.bag, probe) == Some(plain);
+            probe = next_in_train(plain.key);
+        }
+        Ok(same)
+    }
+
+    // Lists both stores, which stay as they were.
+    pub fn print_stores(&mut self, rt: &HostRuntime) -> anyhow::Result<()>
+        ensures { self.new ≡ self.old }
+    {
+        let held = self.table.count();
+        let most = self.table.capacity();
+        println!(rt; "table: {held} of {most}")?;
+        let verdict = if self.print_rows(rt)? {
+            "the same map"
+        } else {
+            "another map"
+        };
+        let held = self.bag.count();
+        let most = self.bag.capacity();
+        println!(rt; "bag: {held} of {most}, {verdict}")?;
+        Ok(())
+    }
+}
+
+// The record of the least key not before a probe.
+fn least<S: Timetable>(store: &mut S, probe: Key) -> Option<Record>
+    ensures { store.new ≡ store.old }
+{
+    let key = store.not_before(probe)?;
+    let mut place = Schedule::blank();
+    if store.find(key, &mut place) {
+        Some(place.into())
+    } else {
+        None
+    }
+}

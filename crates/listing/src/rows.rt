@@ -1,0 +1,199 @@
+// Rows one by one: what each holds, or why it is turned away.
+ghost use Rattle.std.specs.Prelude.{◌≡◌, ℕ, ◌+◌, ◌<◌, ◌≢◌, min, slice_index, fold, true, is_ok, IfErr, IfSome};
+ghost use Rattle.cif.specs.Refusals.{number_of};
+ghost use Rattle.listing.specs.Tallies.{counted, refusal_told};
+
+use cif::content::Content;
+use cif::reading::read;
+use cif::refusal::{Refusal, RowFault};
+use controller::answer::Answer;
+use files::Rows;
+use std::io::{BufWriter, Write};
+use std::{fs, io};
+use wording::words::{FaultWords, Words};
+
+const REFUSALS: [Refusal; 15] = [
+    Refusal::RowLength,
+    Refusal::BadByte,
+    Refusal::UnknownIdentity,
+    Refusal::OutOfPlace,
+    Refusal::BadForm,
+    Refusal::EndsBeforeStart,
+    Refusal::ReferenceMismatch,
+    Refusal::KeyPresent,
+    Refusal::KeyAbsent,
+    Refusal::TooManyCalls,
+    Refusal::TooManyVisits,
+    Refusal::TooManyRows,
+    Refusal::StoreFull,
+    Refusal::NoSuchBoard,
+    Refusal::TooFewSlots,
+];
+
+// How many rows were read or taken, and how many were refused with each number.
+#[derive(Clone, Copy)]
+pub struct Tally {
+    done: u64,
+    refused: [u64; 16],
+}
+
+impl Tally {
+    pub fn new() -> Tally
+        ensures done { result.done ≡ 0 }
+        ensures refused { (k : ℕ) → slice_index result.refused k ≡ 0 }
+    {
+        Tally {
+            done: 0,
+            refused: [0; 16],
+        }
+    }
+
+    pub fn note_done(&mut self)
+        ensures { self.new ≡ record self.old { done = counted (self.old.done + 1) } }
+    {
+        self.done = self.done.saturating_add(1);
+    }
+
+    pub fn note_refused(&mut self, refusal: Refusal)
+        ensures done { self.new.done ≡ self.old.done }
+        ensures here { slice_index self.new.refused (number_of refusal) ≡ counted (slice_index self.old.refused (number_of refusal) + 1) }
+        ensures others { (k : ℕ) → k ≢ number_of refusal → slice_index self.new.refused k ≡ slice_index self.old.refused k }
+    {
+        let n = refusal.number() as usize;
+        self.refused[n] = self.refused[n].saturating_add(1);
+    }
+
+    // Counts a row by what came of it.
+    fn note(&mut self, outcome: &Result<Content, RowFault>)
+        ensures read { is_ok outcome.now ≡ true → self.new ≡ record self.old { done = counted (self.old.done + 1) } }
+        ensures refused { IfErr outcome.now (λ e. slice_index self.new.refused (number_of e.fault.refusal) ≡ counted (slice_index self.old.refused (number_of e.fault.refusal) + 1)) }
+        ensures others { IfErr outcome.now (λ e. (k : ℕ) → k ≢ number_of e.fault.refusal → slice_index self.new.refused k ≡ slice_index self.old.refused k) }
+    {
+        match outcome {
+            Ok(_) => self.note_done(),
+            Err(fault) => self.note_refused(fault.fault.refusal),
+        }
+    }
+
+    // Counts a call by its answer.
+    pub fn note_answer(&mut self, answer: &Answer)
+        ensures done { refusal_told answer.now ≡ None → self.new ≡ record self.old { done = counted (self.old.done + 1) } }
+        ensures refused { IfSome (refusal_told answer.now) (λ r. slice_index self.new.refused (number_of r) ≡ counted (slice_index self.old.refused (number_of r) + 1)) }
+        ensures others { IfSome (refusal_told answer.now) (λ r. (self.new.done ≡ self.old.done) × ((k : ℕ) → k ≢ number_of r → slice_index self.new.refused k ≡ slice_index self.old.refused k)) }
+    {
+        match answer {
+            Answer::Refused(fault) => self.note_refused(fault.fault.fault.refusal),
+            _ => self.note_done(),
+        }
+    }
+
+    pub fn add(&mut self, other: &Tally)
+        ensures done { self.new.done ≡ counted (self.old.done + other.now.done) }
+        ensures refused { (k : ℕ) → k < 16 → slice_index self.new.refused k ≡ counted (slice_index self.old.refused k + slice_index other.now.refused k) }
+    {
+        self.done = self.done.saturating_add(other.done);
+        for (k, count) in self.refused.iter_mut().enumerate() {
+            *count = count.saturating_add(other.refused[k]);
+        }
+    }
+
+    // How many rows were refused with a number.
+    fn times(&self, refusal: Refusal) -> u64
+        ensures { result ≡ slice_index self.now.refused (number_of refusal) }
+    {
+        self.refused[refusal.number() as usize]
+    }
+
+    // How many rows were refused at all.
+    fn all_refused(&self) -> u64
+        ensures { result ≡ fold (λ all n. counted (all + n)) 0 self.now.refused }
+    {
+        self.refused
+            .iter()
+            .fold(0, |all: u64, count| all.saturating_add(*count))
+    }
+
+    // How many rows there were.
+    fn rows(&self) -> u64
+        ensures { result ≡ counted (self.now.done + fold (λ all n. counted (all + n)) 0 self.now.refused) }
+    {
+        self.done.saturating_add(self.all_refused())
+    }
+}
+
+fn write_row<W: Write + Drop>(
+    out: &mut W,
+    number: usize,
+    outcome: &Result<Content, RowFault>,
+) -> io::Result<()> {
+    match outcome {
+        Ok(content) => {
+            let words = Words(content);
+            writeln!(out, "row {number}: {words}")
+        }
+        Err(fault) => {
+            let words = FaultWords(fault);
+            let refusal = fault.fault.refusal;
+            writeln!(out, "row {number}: {words}: {refusal}")
+        }
+    }
+}
+
+// Prints each row of a file, and how many there were.
+pub fn print_file(rt: &HostRuntime, name: &str) -> anyhow::Result<Tally> {
+    let bytes = fs::read(rt, name)?;
+    let mut out = BufWriter::new(rt.alloc(), io::writer(rt))?;
+    writeln!(out, "file {name}")?;
+    let mut tally = Tally::new();
+    for (place, row) in Rows::new(bytes.as_slice()).enumerate() {
+        let outcome = read(row);
+        tally.note(&outcome);
+        write_row(&mut out, place + 1, &outcome)?;
+    }
+    let rows = tally.rows();
+    let read = tally.done;
+    let refused = tally.all_refused();
+    writeln!(out, "rows {rows}: read {read}, refused {refused}")?;
+    out.flush()?;
+    Ok(tally)
+}
+
+// Prints what came of all files, and each number that was told.
+pub fn print_total(rt: &HostRuntime, files: u64, total: &Tally) -> anyhow::Result<()> {
+    print_outcome(rt, files, "read", total)
+}
+
+// The same, where rows were not only read: the verb says what was done with them.
+pub fn print_outcome(
+    rt: &HostRuntime,
+    files: u64,
+    verb: &str,
+    total: &Tally,
+) -> anyhow::Result<()> {
+    let rows = total.rows();
+    let done = total.done;
+    let refused = total.all_refused();
+    println!(rt; "files {files}, rows {rows}: {verb} {done}, refused {refused}")?;
+    print_refusals(rt, total)
+}
+
+// Prints what came of the calls of all histories, and each number that was told.
+pub fn print_calls(rt: &HostRuntime, histories: u64, total: &Tally) -> anyhow::Result<()> {
+    let calls = total.rows();
+    let done = total.done;
+    let refused = total.all_refused();
+    println!(rt; "histories {histories}, calls {calls}: done {done}, refused {refused}")?;
+    print_refusals(rt, total)
+}
+
+// Prints each number that was told, with how many times.
+fn print_refusals(rt: &HostRuntime, total: &Tally) -> anyhow::Result<()> {
+    for refusal in REFUSALS {
+        let number = refusal.number();
+        let count = total.times(refusal);
+        if count > 0 {
+            println!(rt; "refused {number}: {count} times, {refusal}")?;
+        }
+    }
+    Ok(())
+}

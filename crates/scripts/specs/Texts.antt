@@ -1,0 +1,53 @@
+-- What texts and digits of a script stand for.
+use Rattle.std.specs.Prelude.{ℕ, ◌+◌, ◌-◌, ◌*◌, ◌&&◌, Bool, cond, List, [], ◌∷◌, Some, None, Option, ◌==◌, nat_le}
+use Rattle.std.specs.Option.{option_map}
+use Rattle.forms.specs.Bytes.{and_then, provided}
+use Rattle.forms.specs.Forms.{number_in}
+
+-- whether a number lies between two others, both included
+abbrev pub between : ℕ → ℕ → ℕ → Bool
+between least most n = nat_le least n && nat_le n most
+
+-- the value of a hexadecimal digit of either case
+abbrev pub hex_value : ℕ → Option ℕ
+hex_value c =
+    cond (between 48 57 c) (Some (c - 48))
+    (cond (between 97 102 c) (Some (c - 87))
+    (cond (between 65 70 c) (Some (c - 55))
+    None))
+
+-- the byte that two hexadecimal digits write
+abbrev pub hex_byte : ℕ → ℕ → Option ℕ
+hex_byte high low = and_then (hex_value high) (λ x. option_map (λ y. 16 * x + y) (hex_value low))
+
+-- the byte that two hexadecimal digits write, and the text behind them
+abbrev pub escaped : List ℕ → Option (ℕ × List ℕ)
+escaped [] = None
+escaped (high ∷ []) = None
+escaped (high ∷ low ∷ rest) = option_map (λ b. (b, rest)) (hex_byte high low)
+
+-- the byte that a text begins with, and the text behind it: a `\` begins an escaped byte, every other byte stands for itself
+abbrev pub first_meant : List ℕ → Option (ℕ × List ℕ)
+first_meant [] = None
+first_meant (b ∷ rest) = cond (b == 92) (escaped rest) (Some (b, rest))
+
+abbrev mutual
+  -- the bytes that a text stands for, one after another
+  pub meant : List ℕ → Option (List ℕ)
+  meant [] = Some []
+  meant (b ∷ rest) = cond (b == 92) (meant_escaped rest) (option_map (λ bs. b ∷ bs) (meant rest))
+
+  -- those of a text that stands behind a `\`
+  pub meant_escaped : List ℕ → Option (List ℕ)
+  meant_escaped [] = None
+  meant_escaped (high ∷ []) = None
+  meant_escaped (high ∷ low ∷ rest) = and_then (hex_byte high low) (λ b. option_map (λ bs. b ∷ bs) (meant rest))
+
+-- a number where it is not above a limit
+abbrev pub at_most : ℕ → Option ℕ → Option ℕ
+at_most most number = and_then number (λ n. provided (nat_le n most) n)
+
+-- the number that digits write, one at least and nothing else, where it is not above a limit
+abbrev pub number_up_to : ℕ → List ℕ → Option ℕ
+number_up_to most [] = None
+number_up_to most (c ∷ cs) = at_most most (number_in (c ∷ cs))

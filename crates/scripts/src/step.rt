@@ -1,0 +1,50 @@
+// The calls that a script asks for.
+ghost use Rattle.std.specs.Prelude.{◌≡◌};
+ghost use Rattle.runs.specs.Runs.{asked};
+ghost use Rattle.scripts.specs.Steps.{call_of, word_of};
+
+use runs::call::Call;
+
+// A call that a script asks for, with what it is given.
+#[derive(Drop)]
+pub enum Step {
+    Open(Vec<u8>),
+    Row(Vec<u8>),
+    Confirm,
+    Abandon,
+    Turn(u32, Vec<u8>),
+    Tell(usize),
+    Tally,
+}
+
+impl Step {
+    // The word that asks for it.
+    pub fn word(&self) -> &'static str
+        ensures { result.now ≡ word_of self.now }
+    {
+        match self {
+            Step::Open(_) => "open",
+            Step::Row(_) => "row",
+            Step::Confirm => "confirm",
+            Step::Abandon => "abandon",
+            Step::Turn(_, _) => "turn",
+            Step::Tell(_) => "tell",
+            Step::Tally => "tally",
+        }
+    }
+
+    // The call that it asks for.
+    pub fn call(&self) -> Call<'_>
+        ensures { asked result ≡ call_of self.now }
+    {
+        match self {
+            Step::Open(row) => Call::Open(row.as_slice()),
+            Step::Row(row) => Call::Row(row.as_slice()),
+            Step::Confirm => Call::Confirm,
+            Step::Abandon => Call::Abandon,
+            Step::Turn(day, station) => Call::Turn(station.as_slice(), *day),
+            Step::Tell(place) => Call::Tell(*place),
+            Step::Tally => Call::Tally,
+        }
+    }
+}

@@ -1,0 +1,6 @@
+// How rows, schedules, transactions and answers are said in plain words.
+#![tactic(auto)]
+
+pub mod answers;
+pub mod changes;
+pub mod words;
