@@ -4,7 +4,6 @@ use Rattle.std.proofs.lemmas.Bool.{both_ways, cases_lt, cases_order}
 use Rattle.std.proofs.lemmas.Bool.Decides.{nat_tests}
 use Rattle.maps.specs.Maps.{ascending, lookup, gathered, apart}
 use Rattle.maps.proofs.Maps.{same_maps, ascending_gathered, lookup_gathered}
-use Rattle.maps.proofs.Heaped.{length_gathered}
 use Rattle.schedule.specs.declared.key.Key.{Key}
 use Rattle.schedule.specs.declared.record.Record.{Record}
 use Rattle.schedule.specs.Keys.{key_before}
@@ -108,9 +107,6 @@ board_of m station day ys zs all sorted =
       only = λ l o. all.only l (sym (look l) ∙ o);
       every = λ l i. look l ∙ all.every l i;
     }
-
-pub as_many : (ys zs : List Line) → apart line_before line_key ys ≡ true → (apart line_before line_key ys ≡ true → zs ≡ gathered line_before line_key ys) → length zs ≡ length ys
-as_many ys zs a sorted = ap length (sorted a) ∙ length_gathered line_before line_key line_lawful ys a
 
 -- the measure: how many keys are left
 abbrev pub left_from : List Record → Option Key → ℕ

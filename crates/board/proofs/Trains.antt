@@ -36,10 +36,6 @@ calls station r v =
     record { count = leb-true r.count 48 b.0; two = two_visits station (kept_calls r) c.0 }
 
 module _ (m : List Record) (station : List ℕ) (day uid : ℕ) (xs : List Line) where
-  -- no line where nothing can be in force
-  pub trained_none : ((l : Line) → IsLine m station day l → l.key.uid ≡ uid → ⊥) → Trained m station day uid xs xs
-  trained_none none = record { only = λ l o. inl o; kept = λ l o. o; every = λ l i e. absurd (none l i e); few = omega arith; distinct = λ a. a }
-
   in_force_is : (r : Record) → InForce m uid day r → (l : Line) → (i : IsLine m station day l) → l.key.uid ≡ uid → i.schedule ≡ r
   in_force_is r f l i e = one m uid day i.schedule r (subst (λ (u : ℕ). InForce m u day i.schedule) e i.force) f
 

@@ -10,12 +10,6 @@ none_from : {X : Type 0} (o : Option X) → is_some o ≡ false → o ≡ None
 none_from None h = refl
 none_from (Some x) h = absurd (true≢false h)
 
-push_cond : {X : Type 0} (a b : Bool) (x : X) (o : Option X) → (b ≡ true → o ≡ None) → (a ≡ true → b ≡ true → ⊥) → cond a (Some x) (cond b None o) ≡ cond b None (cond a (Some x) o)
-push_cond true true x o n h = absurd (h refl refl)
-push_cond true false x o n h = refl
-push_cond false true x o n h = refl
-push_cond false false x o n h = refl
-
 module _ {E K : Type 0} (before : K → K → Bool) (key : E → K) (lawful : Lawful before) where
   pub passed_lookup : (xs : List E) (k : K) → Passed before key xs k (length xs) → lookup before key xs k ≡ None
   passed_lookup [] k h = refl

@@ -79,9 +79,6 @@ module _ (capacity slots : ℕ) (qs : List Asked) (rs : List Answer) (i : ℕ) (
         subst (λ (ℓ : Ledger). KeepsTo t ℓ) (sym (ledger_more qs rs i q a at within)) o.keeps,
       )
 
-pub no_calls : (capacity slots : ℕ) (qs : List Asked) (rs : List Answer) → FirstCalls capacity slots qs rs 0
-no_calls capacity slots qs rs k x y l e f = absurd (omega arith)
-
 -- the start stays
 step_start : (ℓ : Ledger) (call : Call) (accepted : Bool) → (stepped ℓ call accepted).start ≡ ℓ.start
 step_start ℓ call false = refl
