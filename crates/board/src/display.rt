@@ -1,4 +1,6 @@
 // A departure board.
+ghost use Rattle.std.specs.Prelude.{◌≡◌};
+
 use crate::line::Line;
 use ordered::ordered::Ordered;
 
@@ -14,4 +16,13 @@ pub struct StationDay {
 pub struct Board<'a> {
     pub(crate) lines: Ordered<'a, Line>,
     pub(crate) shown: Option<StationDay>,
+}
+
+impl Board<'_> {
+    // The station and day that it was turned to, if it was.
+    pub fn shown(&self) -> Option<StationDay>
+        ensures { result ≡ self.now.shown }
+    {
+        self.shown
+    }
 }

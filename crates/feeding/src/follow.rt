@@ -30,7 +30,6 @@ pub struct Followed<'a, 'b, S> {
     board: Board<'b>,
     most: usize,
     wanted: Wanted<'a>,
-    has_station: bool,
     refused: u64,
     pub tally: Tally,
 }
@@ -56,7 +55,6 @@ impl<'a, 'b, S: Store + Drop> Followed<'a, 'b, S> {
             board: Board::new(lines),
             most,
             wanted,
-            has_station: false,
             refused: 0,
             tally: Tally::new(),
         }
@@ -73,16 +71,10 @@ impl<'a, 'b, S: Store + Drop> Followed<'a, 'b, S> {
             return Ok(Err(Refusal::NoSuchBoard));
         };
         let station = filled(rt, wanted.station)?;
-        match self
+        let turned = self
             .controller
-            .turn(&mut self.board, station.as_slice(), day)
-        {
-            Ok(()) => {
-                self.has_station = true;
-                Ok(Ok(()))
-            }
-            Err(fault) => Ok(Err(fault.fault.fault.refusal)),
-        }
+            .turn(&mut self.board, station.as_slice(), day);
+        Ok(turned.map_err(|fault| fault.fault.fault.refusal))
     }
 
     // Turns the board to what is wanted, and prints how many lines it has or why it cannot be turned.
@@ -98,7 +90,7 @@ impl<'a, 'b, S: Store + Drop> Followed<'a, 'b, S> {
 
     // Prints the station and date of the board, if it has them.
     fn print_shown(&self, rt: &HostRuntime) -> anyhow::Result<()> {
-        if self.has_station {
+        if self.board.shown().is_some() {
             let Wanted { station, date, .. } = self.wanted;
             print!(rt; "board {station} {date}")?;
         } else {

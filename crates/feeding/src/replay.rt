@@ -3,7 +3,7 @@ ghost use Rattle.std.specs.Prelude.{◌≡◌, ℕ, ◌<◌, ◌↔◌, IsTrue, 
 ghost use Rattle.ordered.specs.Tables.{items};
 
 use anyhow::anyhow;
-use board::display::Board;
+use board::display::{Board, StationDay};
 use board::line::Line;
 use controller::answer::Answer;
 use listing::boards::{empty_line, print_each, shown_lines};
@@ -76,34 +76,29 @@ fn print_answers(
     Ok(())
 }
 
-// The station and day of the last turn that was done.
-fn turned<'a>(calls: &'a [Step], answers: &[Answer]) -> Option<(&'a [u8], u32)> {
-    let mut shown = None;
-    for (step, answer) in calls.iter().zip(answers) {
-        if let (Step::Turn(day, station), Answer::Done) = (step, answer) {
-            shown = Some((station.as_slice(), *day));
+// Prints the station and day of a board, if it has them.
+fn print_shown(rt: &HostRuntime, shown: Option<StationDay>) -> anyhow::Result<()> {
+    match shown {
+        Some(shown) => {
+            let station = Text(&shown.station);
+            let day = shown.day;
+            print!(rt; "{station} day {day}")?;
         }
+        None => print!(rt; "without a station")?,
     }
-    shown
+    Ok(())
 }
 
 // Prints what a controller and its board tell after the calls.
 fn print_end<S: Store>(
     rt: &HostRuntime,
     name: &str,
-    calls: &[Step],
     ran: &mut Ran<'_, S>,
     most: usize,
 ) -> anyhow::Result<()> {
     let tally = ran.installation.controller.tally();
     print!(rt; "{name}: tally {tally}, board ")?;
-    match turned(calls, ran.answers) {
-        Some((station, day)) => {
-            let station = Text(station);
-            print!(rt; "{station} day {day}")?;
-        }
-        None => print!(rt; "without a station")?,
-    }
+    print_shown(rt, ran.installation.board.shown())?;
     let lines = shown_lines(&mut ran.installation.board, most);
     println!(rt; ", lines {lines}")?;
     print_each(rt, &mut ran.installation.board, most)
@@ -130,31 +125,28 @@ fn print_ends<S: Store, T: Store>(
     bag: &mut Ran<'_, T>,
 ) -> anyhow::Result<()> {
     let most = history.slots;
-    print_end(rt, "table", history.calls.as_slice(), table, most)?;
+    print_end(rt, "table", table, most)?;
     let same = is_same(
         &mut table.installation.board,
         &mut bag.installation.board,
         most,
     );
-    match &history.other {
-        Some(other) => {
-            print_end(rt, "bag", other.as_slice(), bag, most)?;
-            let verdict = if same { "the same" } else { "different" };
-            println!(rt; "boards: {verdict}")?;
-        }
-        None => {
-            let answers = if &*table.answers == &*bag.answers {
-                "the same answers"
-            } else {
-                "other answers"
-            };
-            let board = if same {
-                "the same board"
-            } else {
-                "another board"
-            };
-            println!(rt; "bag: {answers}, {board}")?;
-        }
+    if history.other.is_some() {
+        print_end(rt, "bag", bag, most)?;
+        let verdict = if same { "the same" } else { "different" };
+        println!(rt; "boards: {verdict}")?;
+    } else {
+        let answers = if &*table.answers == &*bag.answers {
+            "the same answers"
+        } else {
+            "other answers"
+        };
+        let board = if same {
+            "the same board"
+        } else {
+            "another board"
+        };
+        println!(rt; "bag: {answers}, {board}")?;
     }
     Ok(())
 }
