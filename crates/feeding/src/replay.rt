@@ -1,6 +1,8 @@
 // Scripts of calls, done to controllers over both stores.
-ghost use Rattle.std.specs.Prelude.{◌≡◌, ℕ, ◌<◌, ◌↔◌, IsTrue, IfOk, length, slice_get};
+ghost use Rattle.std.specs.Prelude.{◌≡◌, ℕ, ◌<◌, ◌↔◌, IsTrue, IfOk, length, map, slice_get};
 ghost use Rattle.ordered.specs.Tables.{items};
+ghost use Rattle.runs.specs.Runs.{asked};
+ghost use Rattle.scripts.specs.Steps.{call_of};
 
 use anyhow::anyhow;
 use board::display::{Board, StationDay};
@@ -34,7 +36,7 @@ struct Side<'a> {
 impl<'a> Side<'a> {
     fn new(rt: &HostRuntime, history: &History, steps: &'a [Step]) -> Result<Side<'a>, AllocError>
         ensures lines { IfOk result (λ side. length side.lines.items ≡ history.now.slots) }
-        ensures calls { IfOk result (λ side. length side.calls.items ≡ length steps.now) }
+        ensures calls { IfOk result (λ side. map asked side.calls.items ≡ map call_of steps.now) }
         ensures answers { IfOk result (λ side. length side.answers.items ≡ length steps.now) }
     {
         let mut calls = Vec::new(rt.alloc());
@@ -49,7 +51,10 @@ impl<'a> Side<'a> {
     }
 
     // The calls, to be done over a store.
-    fn plan<'b, S>(&'b mut self, store: S) -> Plan<'b, S> {
+    fn plan<'b, S>(&'b mut self, store: S) -> Plan<'b, S>
+        ensures calls { result.calls.now ≡ self.old.calls.items }
+        ensures store { result.store ≡ store }
+    {
         Plan {
             store,
             slots: self.lines.as_mut_slice(),

@@ -1,5 +1,7 @@
-use Rattle.std.proofs.Common.{◌≡◌, length}
+use Rattle.std.proofs.Common.{◌≡◌, map, take}
+use Rattle.runs.specs.Runs.{asked}
+use Rattle.scripts.specs.Steps.{call_of}
 use Rattle.feeding.proofs.replay.Side.new.Given as goal
 
 abbrev pub invariant-loop-step : goal.invariant-loop-step
-invariant-loop-step l = length l.calls.items ≡ l.step-index
+invariant-loop-step l = map asked l.calls.items ≡ map call_of (take l.step-index l.steps)
