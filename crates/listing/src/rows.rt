@@ -10,7 +10,8 @@ use controller::answer::Answer;
 use files::Rows;
 use std::io::{BufWriter, Write};
 use std::{fs, io};
-use wording::words::{FaultWords, Words};
+use wording::rows::Words;
+use wording::words::FaultWords;
 
 const REFUSALS: [Refusal; 15] = [
     Refusal::RowLength,

@@ -1,1 +1,5 @@
+pub mod Answers
+pub mod Changes
+pub mod Rows
+pub mod Texts
 pub mod Words

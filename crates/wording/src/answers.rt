@@ -1,4 +1,7 @@
 // What calls answer, in plain words.
+ghost use Rattle.std.specs.Prelude.{Some};
+ghost use Rattle.wording.specs.Answers.{refused_text, line_text, answer_text};
+
 use crate::words::{FaultWords, Text};
 use board::line::Line;
 use controller::answer::Answer;
@@ -11,6 +14,8 @@ use std::fmt::{Display, Formatter};
 pub struct RefusedWords<'a>(pub &'a ExtractFault);
 
 impl Display for RefusedWords<'_> {
+    ghost output = { λ words. Some (refused_text words.0.now) };
+
     fn fmt<W: fmt::Write>(&self, f: &mut Formatter<W>) -> fmt::Result {
         let words = FaultWords(&self.0.fault);
         let place = self.0.row;
@@ -24,6 +29,8 @@ impl Display for RefusedWords<'_> {
 pub struct LineWords<'a>(pub &'a Line);
 
 impl Display for LineWords<'_> {
+    ghost output = { λ words. Some (line_text words.0.now) };
+
     fn fmt<W: fmt::Write>(&self, f: &mut Formatter<W>) -> fmt::Result {
         let hours = self.0.key.minute / 60;
         let minutes = self.0.key.minute % 60;
@@ -43,6 +50,8 @@ impl Display for LineWords<'_> {
 pub struct AnswerWords<'a>(pub &'a Answer);
 
 impl Display for AnswerWords<'_> {
+    ghost output = { λ words. Some (answer_text words.0.now) };
+
     fn fmt<W: fmt::Write>(&self, f: &mut Formatter<W>) -> fmt::Result {
         match self.0 {
             Answer::Done => f.write_str("done"),

@@ -1,4 +1,7 @@
 // Keys, schedules and transactions, in plain words.
+ghost use Rattle.std.specs.Prelude.{Some};
+ghost use Rattle.wording.specs.Changes.{key_text, record_text, change_text};
+
 use crate::words::{DaysRun, Text, Uid};
 use schedule::key::Key;
 use schedule::record::Record;
@@ -11,6 +14,8 @@ use std::fmt::{Display, Formatter};
 pub struct KeyWords(pub Key);
 
 impl Display for KeyWords {
+    ghost output = { λ words. Some (key_text words.0) };
+
     fn fmt<W: fmt::Write>(&self, f: &mut Formatter<W>) -> fmt::Result {
         let key = self.0;
         let uid = Uid(key.uid);
@@ -25,6 +30,8 @@ impl Display for KeyWords {
 pub struct RecordWords<'a>(pub &'a Record);
 
 impl Display for RecordWords<'_> {
+    ghost output = { λ words. Some (record_text words.0.now) };
+
     fn fmt<W: fmt::Write>(&self, f: &mut Formatter<W>) -> fmt::Result {
         let key = KeyWords(self.0.key);
         let to = self.0.to;
@@ -46,6 +53,8 @@ impl Display for RecordWords<'_> {
 pub struct ChangeWords<'a>(pub &'a Change);
 
 impl Display for ChangeWords<'_> {
+    ghost output = { λ words. Some (change_text words.0.now) };
+
     fn fmt<W: fmt::Write>(&self, f: &mut Formatter<W>) -> fmt::Result {
         match self.0 {
             Change::New(plain) => {

@@ -3,4 +3,5 @@
 
 pub mod answers;
 pub mod changes;
+pub mod rows;
 pub mod words;
