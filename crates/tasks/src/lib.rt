@@ -1,8 +1,9 @@
 // What the words of the command line ask for.
 #![tactic(auto)]
 
-ghost use Rattle.std.specs.Prelude.{◌≡◌, ◌≤◌, IfOk, IfSome, option_map};
+ghost use Rattle.std.specs.Prelude.{◌≡◌, ◌≤◌, IfOk, IfSome, Some, option_map};
 ghost use Rattle.forms.specs.Forms.{date_in};
+ghost use Rattle.tasks.specs.Stores.{store_word};
 
 use anyhow::anyhow;
 use forms::numbers::date;
@@ -39,6 +40,8 @@ impl FromStr for StoreKind {
 }
 
 impl Display for StoreKind {
+    ghost output = { λ store. Some (store_word store) };
+
     fn fmt<W: fmt::Write>(&self, f: &mut Formatter<W>) -> fmt::Result {
         f.write_str(match self {
             StoreKind::Table => "table",
