@@ -1,4 +1,4 @@
-use Rattle.std.proofs.Common.{[], ◌∷◌, ◌++◌, cond, ap, sym, ◌∙◌, ◌≡◌, refl, rules, map, take, inl, inr, ⊎_elim}
+use Rattle.std.proofs.Common.{[], ◌∷◌, ◌++◌, cond, ap, sym, ◌∙◌, ◌≡◌, refl, true, rules, map, take, inl, inr, ⊎_elim}
 use Rattle.std.proofs.Output.{has_written_of_eq, has_written_append}
 use Rattle.wording.specs.Texts.{weekdays, days_named}
 use Rattle.wording.proofs.Days.{three_letters, short, named, named_map, is_nil, is_nil-push, join_more, days_some, days_none, short_weekdays, turn_run, turn_not_run, turns_end}
@@ -34,7 +34,7 @@ loop-name-preserved-then-runs g c =
       now.0 ++ name ∷ [],
       has_written_of_eq _ _ _ _ _
           (rw (between, c.laid_out.ensures, three_letters c.in-Some.name.now.now) (join_more now.0 name))
-          (has_written_append _ _ _ _ _ _ now.1 (c.in_ok-write.ensures.writes now.1.plain refl)),
+          (has_written_append _ _ _ _ _ _ now.1 (c.in_ok-write.ensures.writes now.1.plain (refl {a = true}))),
       is_nil-push now.0 name,
       turn_run short now.0 _ _ _ _ _ _ _ taken.0 taken.1 c.if-runs.true now.3,
     )
@@ -56,7 +56,7 @@ returns-in_ok-write_str-clause-writes g c =
     let now = c.loop-name.invariant plain in
     let all = turns_end short now.0 _ _ _ (⊎_elim (λ h. inl h.1.0) (λ h. inr h.1.0) c.in-None.ensures.steps) now.3 in
     has_written_of_eq _ _ _ _ _ (days_none now.0 (sym now.2 ∙ c.if-none-2.true) ∙ ap days_named all)
-    (has_written_append _ _ _ _ _ _ now.1 (c.in_ok-write_str.ensures.writes now.1.plain refl))
+    (has_written_append _ _ _ _ _ _ now.1 (c.in_ok-write_str.ensures.writes now.1.plain (refl {a = true})))
 
 pub returns-else-none-2-clause-writes : goal.returns-else-none-2-clause-writes
 returns-else-none-2-clause-writes g c =
