@@ -1,9 +1,11 @@
 // What the words of the command line ask for.
 #![tactic(auto)]
 
-ghost use Rattle.std.specs.Prelude.{◌≡◌, ◌≤◌, IfOk, IfSome, Some, option_map};
+ghost use Rattle.std.specs.Prelude.{◌≡◌, ◌≤◌, IfOk, IfSome, Some, is_ok, is_some, option_map};
+ghost use Rattle.std.specs.Str.Parse.{ParsesUpTo, without_leading_plus};
 ghost use Rattle.forms.specs.Forms.{date_in};
-ghost use Rattle.tasks.specs.Stores.{store_word};
+ghost use Rattle.tasks.specs.Stores.{store_word, store_named};
+ghost use Rattle.tasks.specs.Tasks.{AsksBoard};
 
 use anyhow::anyhow;
 use forms::numbers::date;
@@ -29,6 +31,8 @@ pub enum StoreKind {
 
 impl FromStr for StoreKind {
     type Err = anyhow::Error;
+
+    ghost from_str_gives = { λ word kind. is_ok kind ≡ is_some (store_named word) × IfOk kind (λ k. store_named word ≡ Some k) };
 
     fn from_str(word: &str) -> anyhow::Result<StoreKind> {
         match word {
@@ -68,7 +72,9 @@ impl<'a> Wanted<'a> {
     }
 
     // What the first four words ask for, and the words after them, of which there is one at least.
-    fn from_words(words: &'a [String]) -> anyhow::Result<(Wanted<'a>, &'a [String])> {
+    fn from_words(words: &'a [String]) -> anyhow::Result<(Wanted<'a>, &'a [String])>
+        ensures { IfOk result (λ given. AsksBoard words.now given.0 given.1.now) }
+    {
         match words {
             [store, capacity, station, date, rest @ ..] if !rest.is_empty() => {
                 let wanted = Wanted {
@@ -139,7 +145,7 @@ impl Options {
 
 // The number of slots that is asked for, if there may be so many.
 fn slots_in(capacity: &str) -> anyhow::Result<usize>
-    ensures { IfOk result (λ slots. slots ≤ 65536) }
+    ensures { ParsesUpTo 65536 10 (without_leading_plus capacity.now) result }
 {
     let slots = capacity.parse::<usize>()?;
     if slots > MOST_SLOTS {
