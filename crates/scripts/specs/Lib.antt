@@ -1,2 +1,4 @@
 pub mod Texts
 pub mod Steps
+pub mod Lines
+pub mod Histories

@@ -1,5 +1,7 @@
 // Histories: the calls to the controllers over two stores.
-ghost use Rattle.std.specs.Prelude.{◌≡◌, true, [], ◌∷◌, ◌++◌, is_ok, None, IfSome, MatchOption};
+ghost use Rattle.std.specs.Prelude.{◌≡◌, true, [], ◌∷◌, ◌++◌, is_ok, option_map, MatchOption};
+ghost use Rattle.scripts.specs.Histories.{told, with_call};
+ghost use Rattle.scripts.specs.Steps.{call_of};
 
 use crate::step::Step;
 use std::alloc::AllocError;
@@ -28,7 +30,8 @@ impl History {
     // Adds a call, to those of the bag's controller where it has its own.
     pub(crate) fn push(&mut self, step: Step) -> Result<(), AllocError>
         ensures calls { is_ok result ≡ true → MatchOption self.old.other (self.new.calls.items ≡ self.old.calls.items ++ step ∷ []) (λ other. self.new.calls ≡ self.old.calls) }
-        ensures other { is_ok result ≡ true → MatchOption self.old.other (self.new.other ≡ None) (λ other. IfSome self.new.other (λ more. more.items ≡ other.items ++ step ∷ [])) }
+        ensures other { is_ok result ≡ true → option_map (λ more. more.items) self.new.other ≡ option_map (λ other. other.items ++ step ∷ []) self.old.other }
+        ensures told { is_ok result ≡ true → told self.new ≡ with_call (call_of step) (told self.old) }
         ensures slots { (self.new.capacity ≡ self.old.capacity) × (self.new.slots ≡ self.old.slots) }
     {
         match &mut self.other {

@@ -1,5 +1,8 @@
 // The lines of a script, read one after another.
-ghost use Rattle.std.specs.Prelude.{◌≡◌, false, IfOk};
+ghost use Rattle.std.specs.Prelude.{◌≡◌, true, false, map, Some, None, option_map, IfOk};
+ghost use Rattle.scripts.specs.Histories.{told, after};
+ghost use Rattle.scripts.specs.Lines.{says_of, new_in, turn_in, call_in, says};
+ghost use Rattle.scripts.specs.Steps.{call_of};
 
 use crate::history::History;
 use crate::step::Step;
@@ -23,14 +26,19 @@ enum Said {
 }
 
 // A new history's slots and line slots.
-fn new_in(numbers: &[u8]) -> Option<Said> {
+fn new_in(numbers: &[u8]) -> Option<Said>
+    ensures { option_map says_of result ≡ new_in numbers.now }
+{
     let (capacity, slots) = split_blank(numbers);
     let capacity = number_up_to(MOST_SLOTS, capacity)?;
     let slots = number_up_to(MOST_LINES, slots?)?;
     Some(Said::New(capacity as usize, slots as usize))
 }
 
-fn turn_in(alloc: Global, rest: &[u8]) -> Result<Option<Step>, AllocError> {
+// The call that a day and a station, behind the word `turn`, ask for.
+fn turn_in(alloc: Global, rest: &[u8]) -> Result<Option<Step>, AllocError>
+    ensures { IfOk result (λ step. option_map call_of step ≡ turn_in rest.now) }
+{
     let (day, station) = split_blank(rest);
     let Some(day) = number_up_to(u64::from(u32::MAX), day) else {
         return Ok(None);
@@ -41,7 +49,9 @@ fn turn_in(alloc: Global, rest: &[u8]) -> Result<Option<Step>, AllocError> {
 }
 
 // The call that a word and what follows it ask for, if they ask for one.
-fn step_in(alloc: Global, word: &str, rest: Option<&[u8]>) -> Result<Option<Step>, AllocError> {
+fn step_in(alloc: Global, word: &str, rest: Option<&[u8]>) -> Result<Option<Step>, AllocError>
+    ensures { IfOk result (λ step. option_map call_of step ≡ call_in word.now (option_map (λ text. text.now) rest.entry)) }
+{
     let step = match (word, rest) {
         ("open", _) => meant(alloc, rest.unwrap_or(&[]))?.map(Step::Open),
         ("row", _) => meant(alloc, rest.unwrap_or(&[]))?.map(Step::Row),
@@ -58,42 +68,48 @@ fn step_in(alloc: Global, word: &str, rest: Option<&[u8]>) -> Result<Option<Step
 }
 
 // What a line says, or none where it is no line of a script.
-fn said_in(alloc: Global, line: &[u8]) -> Result<Option<Said>, AllocError> {
-    let (word, rest) = split_blank(line);
-    match (str::from_utf8(word), rest) {
-        _ if line.is_empty() || line[0] == b'#' => Ok(Some(Said::Nothing)),
-        (Ok("new"), Some(numbers)) => Ok(new_in(numbers)),
-        (Ok("other"), None) => Ok(Some(Said::Other)),
-        (Ok(word), rest) => Ok(step_in(alloc, word, rest)?.map(Said::Step)),
-        (Err(_), _) => Ok(None),
+fn said_in(alloc: Global, line: &[u8]) -> Result<Option<Said>, AllocError>
+    ensures { IfOk result (λ said. option_map says_of said ≡ says line.now) }
+{
+    if line.is_empty() || line[0] == b'#' {
+        return Ok(Some(Said::Nothing));
     }
+    let (word, rest) = split_blank(line);
+    let Ok(word) = str::from_utf8(word) else {
+        return Ok(None);
+    };
+    let said = match (word, rest) {
+        ("new", Some(numbers)) => new_in(numbers),
+        ("other", None) => Some(Said::Other),
+        _ => step_in(alloc, word, rest)?.map(Said::Step),
+    };
+    Ok(said)
 }
 
 // Adds what a line says to the histories before it, and says whether it may stand there.
 fn take(alloc: Global, histories: &mut Vec<History>, said: Said) -> Result<bool, AllocError>
-    ensures { IfOk result (λ taken. taken ≡ false → histories.new.items ≡ histories.old.items) }
+    ensures taken { IfOk result (λ taken. taken ≡ true → after (map told histories.old.items) (says_of said) ≡ Some (map told histories.new.items)) }
+    ensures refused { IfOk result (λ taken. taken ≡ false → after (map told histories.old.items) (says_of said) ≡ None) }
+    ensures unchanged { IfOk result (λ taken. taken ≡ false → histories.new.items ≡ histories.old.items) }
 {
-    if let Said::New(capacity, slots) = said {
-        histories.push(History {
+    match said {
+        Said::Nothing => {}
+        Said::New(capacity, slots) => histories.push(History {
             capacity,
             slots,
             calls: Vec::new(alloc),
             other: None,
-        })?;
-        return Ok(true);
+        })?,
+        Said::Other => match histories.last_mut() {
+            Some(history) if history.other.is_none() => history.other = Some(Vec::new(alloc)),
+            _ => return Ok(false),
+        },
+        Said::Step(step) => match histories.last_mut() {
+            Some(history) => history.push(step)?,
+            None => return Ok(false),
+        },
     }
-    match (said, histories.last_mut()) {
-        (Said::Other, Some(history)) if history.other.is_none() => {
-            history.other = Some(Vec::new(alloc));
-            Ok(true)
-        }
-        (Said::Step(step), Some(history)) => {
-            history.push(step)?;
-            Ok(true)
-        }
-        (Said::Nothing, _) => Ok(true),
-        _ => Ok(false),
-    }
+    Ok(true)
 }
 
 // The histories of a script. A line that is none of a script, or stands where it may not, is told by its number.

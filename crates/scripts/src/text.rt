@@ -1,5 +1,6 @@
 // What texts and digits stand for.
-ghost use Rattle.std.specs.Prelude.{◌≡◌, ◌<◌, ◌≤◌, ◌∷◌, ◌++◌, length, option_map, Contains, IfOk, IfSome, MatchOption};
+ghost use Rattle.std.specs.Prelude.{◌≡◌, ◌<◌, ◌≤◌, length, option_map, IfOk, IfSome};
+ghost use Rattle.scripts.specs.Lines.{word_in, behind_word};
 ghost use Rattle.scripts.specs.Texts.{hex_value, first_meant, meant, number_up_to};
 
 use std::alloc::{AllocError, Global};
@@ -68,8 +69,8 @@ pub(crate) fn number_up_to(most: u64, digits: &[u8]) -> Option<u64>
 
 // What stands before the first blank, and what stands behind it where there is one.
 pub(crate) fn split_blank(line: &[u8]) -> (&[u8], Option<&[u8]>)
-    ensures whole { MatchOption result.1 (result.0.now ≡ line.now) (λ rest. line.now ≡ result.0.now ++ 32 ∷ rest.now) }
-    ensures first { ¬ (Contains result.0.now 32) }
+    ensures word { result.0.now ≡ word_in line.now }
+    ensures behind { option_map (λ rest. rest.now) result.1 ≡ behind_word line.now }
 {
     match line.iter().position(|b| *b == b' ') {
         Some(n) => (&line[..n], Some(&line[n + 1..])),

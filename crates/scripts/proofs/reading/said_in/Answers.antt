@@ -1,0 +1,28 @@
+use Rattle.std.proofs.Common.{rules, ◌≡◌, option_map, List, ℕ, ap, sym, ◌∙◌, arith, Bor}
+use Rattle.scripts.specs.Lines.{says_of, says, said_by, word_in, behind_word}
+use Rattle.scripts.proofs.Words.{says_by, no_word}
+use Rattle.scripts.proofs.reading.said_in.Goals as goal
+use Rattle.scripts.proofs.reading.said_in.Goals.{After-split_blank, in-new-Some, in-other-None, in_default-2+in_ok-step_in-in_default-2, in_default-2-via-in-new-0+in-None, in_default-2-via-in-other-0+in-Some, in_default-2-via-in_default-2}
+
+by_word : (c : After-split_blank) → says c.args.line.now ≡ said_by c.split_blank.result.0.now (option_map {T = Bor (List ℕ)} {U = List ℕ} (λ r. r.now) c.split_blank.result.1)
+by_word c =
+    let from = says_by c.args.line.now (search rules) (search rules) in
+    let w = c.split_blank.ensures.word in
+    let b = c.split_blank.ensures.behind in
+    cc
+
+pub returns-in_default : goal.returns-in_default
+returns-in_default c = sym (by_word (goal.at.returns-in_default c).After-split_blank ∙ no_word _ (option_map {T = Bor (List ℕ)} {U = List ℕ} (λ r. r.now) c.split_blank.result.1) c.in_default.ensures.cases.0)
+
+pub returns : goal.returns
+returns c = 
+    let e = by_word (goal.at.returns c).After-split_blank in
+    elim c.match-word.branch [
+      | in-new-Some w ↦ rw e (search rules)
+      | in-other-None w ↦ rw e (search rules)
+      | in_default-2+in_ok-step_in-in_default-2 w ↦ elim w.in_default-2.branch [
+          | in_default-2-via-in-new-0+in-None w' ↦ rw e (search rules)
+          | in_default-2-via-in-other-0+in-Some w' ↦ rw e (search rules)
+          | in_default-2-via-in_default-2 w' ↦ rw e (search rules)
+          ]
+    ]

@@ -1,0 +1,73 @@
+-- The histories that the lines of a script tell.
+use Rattle.std.specs.Prelude.{ℕ, cond, List, [], ◌∷◌, ◌++◌, map, Some, None, Option, ◌==◌}
+use Rattle.std.specs.Option.{option_map}
+use Rattle.forms.specs.Bytes.{and_then}
+use Rattle.controller.specs.Calls.{Call}
+use Rattle.scripts.specs.declared.history.History.{History}
+use Rattle.scripts.specs.Steps.{call_of}
+use Rattle.scripts.specs.Lines.{Says, Nothing, New, Other, Asks, says}
+
+-- a history: how many slots and line slots, the calls, and those of the bag's controller where it has its own
+pub record Told : Type 0 where
+  pub capacity : ℕ
+  pub slots : ℕ
+  pub calls : List Call
+  pub other : Option (List Call)
+
+-- the history that a value holds
+abbrev pub told : History → Told
+told h = record { capacity = h.capacity; slots = h.slots; calls = map call_of h.calls.items; other = option_map (λ v. map call_of v.items) h.other }
+
+-- a history at its begin
+abbrev pub begun : ℕ → ℕ → Told
+begun capacity slots = record { capacity = capacity; slots = slots; calls = []; other = None }
+
+-- the calls with one more, where it is not for the bag's controller only
+abbrev pub calls_with : Call → List Call → Option (List Call) → List Call
+calls_with call calls None = calls ++ call ∷ []
+calls_with call calls (Some other) = calls
+
+-- a history with one more call, among those of the bag's controller where it has its own
+abbrev pub with_call : Call → Told → Told
+with_call call h = record { capacity = h.capacity; slots = h.slots; calls = calls_with call h.calls h.other; other = option_map (λ other. other ++ call ∷ []) h.other }
+
+-- the calls of the bag's controller begin once in a history
+abbrev pub first_other : Option (List Call) → Option (List Call)
+first_other None = Some []
+first_other (Some other) = None
+
+-- a history whose following calls are for the bag's controller only
+abbrev pub with_other : Told → Option Told
+with_other h = option_map (λ other. record { capacity = h.capacity; slots = h.slots; calls = h.calls; other = Some other }) (first_other h.other)
+
+-- histories with the last one changed, where there is one and the change may be
+abbrev pub on_last : (Told → Option Told) → List Told → Option (List Told)
+on_last change [] = None
+on_last change (h ∷ []) = option_map (λ changed. changed ∷ []) (change h)
+on_last change (h ∷ next ∷ more) = option_map (λ changed. h ∷ changed) (on_last change (next ∷ more))
+
+-- the histories after a line, by those before it and what it says, if it may stand there
+abbrev pub after : List Told → Says → Option (List Told)
+after histories Nothing = Some histories
+after histories (New capacity slots) = Some (histories ++ begun capacity slots ∷ [])
+after histories Other = on_last with_other histories
+after histories (Asks call) = on_last (λ h. Some (with_call call h)) histories
+
+-- a byte put before the first of some lines
+abbrev pub before_first : ℕ → List (List ℕ) → List (List ℕ)
+before_first c [] = (c ∷ []) ∷ []
+before_first c (line ∷ lines) = (c ∷ line) ∷ lines
+
+-- the lines of a text: a line ends at a line feed, and a last one without it counts
+abbrev pub lines_of : List ℕ → List (List ℕ)
+lines_of [] = []
+lines_of (c ∷ cs) = cond (c == 10) ([] ∷ lines_of cs) (before_first c (lines_of cs))
+
+-- the histories after some lines, by those before them, if each line may stand where it does
+abbrev pub after_all : List Told → List (List ℕ) → Option (List Told)
+after_all histories [] = Some histories
+after_all histories (line ∷ lines) = and_then (says line) (λ said. and_then (after histories said) (λ next. after_all next lines))
+
+-- the histories of a script, if all its lines are those of a script
+abbrev pub histories_of : List ℕ → Option (List Told)
+histories_of script = after_all [] (lines_of script)
