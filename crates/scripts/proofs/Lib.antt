@@ -1,3 +1,4 @@
 pub mod Meaning
 pub mod Words
 pub mod Taking
+pub mod Turns

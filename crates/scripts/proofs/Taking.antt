@@ -1,5 +1,5 @@
 -- What a line adds to the histories before it.
-use Rattle.std.proofs.Common.{◌≡◌, ℕ, ◌+◌, ◌-◌, ◌<◌, List, [], ◌∷◌, ◌++◌, length, get_or, map, Some, None, Option, refl, ap, sym, ◌∙◌, suc, zero, Bool, true, false, Vec, Global, arith}
+use Rattle.std.proofs.Common.{◌≡◌, ℕ, List, [], ◌∷◌, length, get_or, map, Some, None, Option, refl, ap, sym, ◌∙◌, suc, zero, true, false, Vec, Global, arith}
 use Rattle.std.proofs.Math.ListN.{set, get_or-map}
 use Rattle.std.proofs.lemmas.List.{length-map, map-set}
 use Rattle.std.specs.Option.{option_map}

@@ -2,14 +2,10 @@
 use Rattle.std.proofs.Common.{◌≡◌, ◌≢◌, ℕ, ◌+◌, ◌<◌, ◌≤◌, Bool, true, false, not, cond, eqb, ltb, List, [], ◌∷◌, length, take, drop, get_or, Some, None, Option, refl, ap, sym, subst, ◌∙◌, suc, arith}
 use Rattle.std.specs.List.{position_or_len}
 use Rattle.std.proofs.lemmas.Bool.Decides.{nat_tests}
-use Rattle.std.specs.Option.{option_map}
 use Rattle.std.specs.Prelude.{codes}
 use Rattle.std.specs.Str.{bytes_eq, IsUtf8}
 use Rattle.std.proofs.lemmas.Slice.Eq.{bytes_eq-Decides}
-use Rattle.scripts.specs.declared.reading.Said.TheVariants.{Step as SaidStep}
-use Rattle.scripts.specs.declared.step.Step.{Step}
-use Rattle.scripts.specs.Steps.{call_of}
-use Rattle.scripts.specs.Lines.{word_in, behind_word, says, said_by, says_of, call_in, new_in, Asks}
+use Rattle.scripts.specs.Lines.{word_in, behind_word, says, said_by}
 
 -- the place of the first blank, or the length where there is none
 abbrev pub blank_in : List ℕ → ℕ
@@ -84,13 +80,13 @@ unfolding lib.Utf8.encode
 no_word word rest h =
     let apart = λ (name : List ℕ) (u : IsUtf8 name). other_word word name h u in
     simp (
-    apart (codes "new") (codes "new", (refl, refl)),
-    apart (codes "other") (codes "other", (refl, refl)),
-    apart (codes "open") (codes "open", (refl, refl)),
-    apart (codes "row") (codes "row", (refl, refl)),
-    apart (codes "confirm") (codes "confirm", (refl, refl)),
-    apart (codes "abandon") (codes "abandon", (refl, refl)),
-    apart (codes "turn") (codes "turn", (refl, refl)),
-    apart (codes "tell") (codes "tell", (refl, refl)),
-    apart (codes "tally") (codes "tally", (refl, refl))
+      apart (codes "new") (codes "new", (refl, refl)),
+      apart (codes "other") (codes "other", (refl, refl)),
+      apart (codes "open") (codes "open", (refl, refl)),
+      apart (codes "row") (codes "row", (refl, refl)),
+      apart (codes "confirm") (codes "confirm", (refl, refl)),
+      apart (codes "abandon") (codes "abandon", (refl, refl)),
+      apart (codes "turn") (codes "turn", (refl, refl)),
+      apart (codes "tell") (codes "tell", (refl, refl)),
+      apart (codes "tally") (codes "tally", (refl, refl)),
     )

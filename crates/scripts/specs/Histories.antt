@@ -1,5 +1,5 @@
 -- The histories that the lines of a script tell.
-use Rattle.std.specs.Prelude.{ℕ, cond, List, [], ◌∷◌, ◌++◌, map, Some, None, Option, ◌==◌}
+use Rattle.std.specs.Prelude.{ℕ, ◌+◌, cond, List, [], ◌∷◌, ◌++◌, map, Some, None, Option, Ok, Err, Result, ◌==◌}
 use Rattle.std.specs.Option.{option_map}
 use Rattle.forms.specs.Bytes.{and_then}
 use Rattle.controller.specs.Calls.{Call}
@@ -63,11 +63,16 @@ abbrev pub lines_of : List ℕ → List (List ℕ)
 lines_of [] = []
 lines_of (c ∷ cs) = cond (c == 10) ([] ∷ lines_of cs) (before_first c (lines_of cs))
 
--- the histories after some lines, by those before them, if each line may stand where it does
-abbrev pub after_all : List Told → List (List ℕ) → Option (List Told)
-after_all histories [] = Some histories
-after_all histories (line ∷ lines) = and_then (says line) (λ said. and_then (after histories said) (λ next. after_all next lines))
+-- what follows a line that may stand where it does, or the number of one that may not
+abbrev pub or_line : ℕ → Option (List Told) → (List Told → Result (List Told) ℕ) → Result (List Told) ℕ
+or_line number (Some histories) following = following histories
+or_line number None following = Err number
 
--- the histories of a script, if all its lines are those of a script
-abbrev pub histories_of : List ℕ → Option (List Told)
-histories_of script = after_all [] (lines_of script)
+-- the histories after some lines, by those before them, or the number of the first line that is none of a script or stands where it may not
+abbrev pub after_all : ℕ → List Told → List (List ℕ) → Result (List Told) ℕ
+after_all number histories [] = Ok histories
+after_all number histories (line ∷ lines) = or_line number (and_then (says line) (after histories)) (λ next. after_all (number + 1) next lines)
+
+-- the histories of a script, whose lines are counted from 1, or the number of the first line that is none or stands where it may not
+abbrev pub histories_of : List ℕ → Result (List Told) ℕ
+histories_of script = after_all 1 [] (lines_of script)

@@ -1,8 +1,9 @@
 // The lines of a script, read one after another.
-ghost use Rattle.std.specs.Prelude.{◌≡◌, true, false, map, Some, None, option_map, IfOk};
-ghost use Rattle.scripts.specs.Histories.{told, after};
+ghost use Rattle.std.specs.Prelude.{◌≡◌, ℕ, true, false, map, Some, None, Ok, Err, option_map, IfOk};
+ghost use Rattle.scripts.specs.Histories.{told, after, histories_of};
 ghost use Rattle.scripts.specs.Lines.{says_of, new_in, turn_in, call_in, says};
 ghost use Rattle.scripts.specs.Steps.{call_of};
+ghost use Rattle.scripts.specs.declared.reading.Unread.TheVariants.{Line, Memory};
 
 use crate::history::History;
 use crate::step::Step;
@@ -112,8 +113,26 @@ fn take(alloc: Global, histories: &mut Vec<History>, said: Said) -> Result<bool,
     Ok(true)
 }
 
+// Why a script is not read: a line, by its number, or no memory.
+#[derive(Drop)]
+enum Unread {
+    Line(usize),
+    Memory(AllocError),
+}
+
+impl From<AllocError> for Unread {
+    ghost from_gives = { λ error unread. unread ≡ Memory error };
+
+    fn from(error: AllocError) -> Unread {
+        Unread::Memory(error)
+    }
+}
+
 // The histories of a script. A line that is none of a script, or stands where it may not, is told by its number.
-pub fn histories_in(alloc: Global, name: &str, script: &[u8]) -> anyhow::Result<Vec<History>> {
+fn read(alloc: Global, script: &[u8]) -> Result<Vec<History>, Unread>
+    ensures histories { IfOk result (λ histories. histories_of script.now ≡ Ok (map told histories.items)) }
+    ensures unread { (number : ℕ) → result ≡ Err (Line number) → histories_of script.now ≡ Err number }
+{
     let mut histories = Vec::new(alloc);
     for (place, line) in Rows::new(script).enumerate() {
         let taken = match said_in(alloc, line)? {
@@ -121,9 +140,21 @@ pub fn histories_in(alloc: Global, name: &str, script: &[u8]) -> anyhow::Result<
             None => false,
         };
         if !taken {
-            let number = place + 1;
-            return Err(anyhow!("script {name}, line {number}: no line of a script"));
+            return Err(Unread::Line(place + 1));
         }
     }
     Ok(histories)
+}
+
+// The histories of a script, or an error that names the line that is none of a script.
+pub fn histories_in(alloc: Global, name: &str, script: &[u8]) -> anyhow::Result<Vec<History>>
+    ensures { IfOk result (λ histories. histories_of script.now ≡ Ok (map told histories.items)) }
+{
+    match read(alloc, script) {
+        Ok(histories) => Ok(histories),
+        Err(Unread::Line(number)) => {
+            Err(anyhow!("script {name}, line {number}: no line of a script"))
+        }
+        Err(Unread::Memory(error)) => Err(error.into()),
+    }
 }

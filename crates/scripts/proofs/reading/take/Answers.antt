@@ -1,4 +1,4 @@
-use Rattle.std.proofs.Common.{rules, ◌≡◌, true, false, map, Some, None, option_map, ℕ, ◌+◌, ◌-◌, ◌<◌, length, List, [], ◌∷◌, slice_index_or, slice_set, refl, ap, sym, ◌∙◌, suc, arith}
+use Rattle.std.proofs.Common.{◌≡◌, map, Some, ◌-◌, ◌<◌, length, refl, ap, sym, ◌∙◌, suc, arith}
 use Rattle.std.specs.Vec.{vec_len}
 use Rattle.scripts.specs.Lines.{says_of}
 use Rattle.scripts.specs.Histories.{told, after, with_other, with_call}

@@ -1,4 +1,4 @@
-use Rattle.std.proofs.Common.{◌≡◌, ◌+◌, ◌-◌, ℕ, ◌<◌, cond, eqb, ltb, List, length, take, drop, Some, None, Option, ap, ◌∙◌, sym, refl, rules, arith}
+use Rattle.std.proofs.Common.{◌≡◌, ◌+◌, ℕ, cond, eqb, ltb, List, length, take, drop, Some, None, ap, ◌∙◌, sym, rules}
 use borrow.Author.Tests.{tests}
 use Rattle.std.proofs.lemmas.List.{take_rest}
 use Rattle.std.proofs.lemmas.Iterator.{YieldsList-from_slice}
