@@ -15,14 +15,4 @@ pub returns-in_default : goal.returns-in_default
 returns-in_default c = sym (by_word (goal.at.returns-in_default c).After-split_blank ∙ no_word _ (option_map {T = Bor (List ℕ)} {U = List ℕ} (λ r. r.now) c.split_blank.result.1) c.in_default.ensures.cases.0)
 
 pub returns : goal.returns
-returns c =
-    let e = by_word (goal.at.returns c).After-split_blank in
-    elim c.match-word.branch [
-      | in-new-Some w ↦ rw e (search rules)
-      | in-other-None w ↦ rw e (search rules)
-      | in_default-2+in_ok-step_in-in_default-2 w ↦ elim w.in_default-2.branch [
-        | in_default-2-via-in-new-0+in-None w' ↦ rw e (search rules)
-        | in_default-2-via-in-other-0+in-Some w' ↦ rw e (search rules)
-        | in_default-2-via-in_default-2 w' ↦ rw e (search rules)
-      ]
-    ]
+returns c = let e = by_word (goal.at.returns c).After-split_blank in rw e (search rules)
