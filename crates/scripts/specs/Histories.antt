@@ -18,11 +18,11 @@ pub record Told : Type 0 where
 abbrev pub told : History → Told
 told h = record { capacity = h.capacity; slots = h.slots; calls = map call_of h.calls.items; other = option_map (λ v. map call_of v.items) h.other }
 
--- a history at its begin
+-- a history without calls
 abbrev pub begun : ℕ → ℕ → Told
 begun capacity slots = record { capacity = capacity; slots = slots; calls = []; other = None }
 
--- the calls with one more, where it is not for the bag's controller only
+-- the calls with one more behind them, unless the bag's controller has its own
 abbrev pub calls_with : Call → List Call → Option (List Call) → List Call
 calls_with call calls None = calls ++ call ∷ []
 calls_with call calls (Some other) = calls
@@ -31,12 +31,12 @@ calls_with call calls (Some other) = calls
 abbrev pub with_call : Call → Told → Told
 with_call call h = record { capacity = h.capacity; slots = h.slots; calls = calls_with call h.calls h.other; other = option_map (λ other. other ++ call ∷ []) h.other }
 
--- the calls of the bag's controller begin once in a history
+-- the bag's controller begins with no calls of its own, once in a history
 abbrev pub first_other : Option (List Call) → Option (List Call)
 first_other None = Some []
 first_other (Some other) = None
 
--- a history whose following calls are for the bag's controller only
+-- a history with calls of the bag's controller from here on
 abbrev pub with_other : Told → Option Told
 with_other h = option_map (λ other. record { capacity = h.capacity; slots = h.slots; calls = h.calls; other = Some other }) (first_other h.other)
 
@@ -46,7 +46,7 @@ on_last change [] = None
 on_last change (h ∷ []) = option_map (λ changed. changed ∷ []) (change h)
 on_last change (h ∷ next ∷ more) = option_map (λ changed. h ∷ changed) (on_last change (next ∷ more))
 
--- the histories after a line, by those before it and what it says, if it may stand there
+-- the histories after a line, by those before it and what it says, if it may stand there: a call and `other` stand behind a `new`
 abbrev pub after : List Told → Says → Option (List Told)
 after histories Nothing = Some histories
 after histories (New capacity slots) = Some (histories ++ begun capacity slots ∷ [])
@@ -63,7 +63,7 @@ abbrev pub lines_of : List ℕ → List (List ℕ)
 lines_of [] = []
 lines_of (c ∷ cs) = cond (c == 10) ([] ∷ lines_of cs) (before_first c (lines_of cs))
 
--- what follows a line that may stand where it does, or the number of one that may not
+-- what follows the histories after a line, or the number of a line that may not stand where it does
 abbrev pub or_line : ℕ → Option (List Told) → (List Told → Result (List Told) ℕ) → Result (List Told) ℕ
 or_line number (Some histories) following = following histories
 or_line number None following = Err number

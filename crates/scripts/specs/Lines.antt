@@ -24,12 +24,12 @@ abbrev pub or_empty : Option (List ℕ) → List ℕ
 or_empty (Some rest) = rest
 or_empty None = []
 
--- what a word stands for that has nothing after it
+-- what a word asks for that may have nothing after it
 abbrev pub alone : {X : Type 0} → X → Option (List ℕ) → Option X
 alone x None = Some x
 alone x (Some rest) = None
 
--- the call turn to a station and a day, in this order behind the word: the day, a blank, the station
+-- the call turn that a text asks for: a day, and behind a blank the station, which may be empty and then left out with the blank
 abbrev pub turn_in : List ℕ → Option Call
 turn_in rest =
     and_then (number_up_to 4294967295 (word_in rest)) (λ day. option_map (λ station. Turn station day) (meant (or_empty (behind_word rest))))
@@ -46,14 +46,14 @@ call_in word rest =
     (cond (bytes_eq word (codes "tally")) (alone Tally rest)
     None))))))
 
--- what a line says: nothing, that a history begins, that the calls of the bag's controller begin, or a call
+-- what a line says: nothing, that a history begins, that the bag's controller gets the calls that follow, or a call
 pub data Says : Type 0 where
   Nothing : Says
   New : ℕ → ℕ → Says
   Other : Says
   Asks : Call → Says
 
--- a history that begins, by its slots and line slots
+-- the history that begins with its slots, 65,536 at most, and behind a blank its line slots, 131,072 at most
 abbrev pub new_in : List ℕ → Option Says
 new_in numbers =
     and_then (number_up_to 65536 (word_in numbers)) (λ capacity. and_then (behind_word numbers) (λ rest. option_map (New capacity) (number_up_to 131072 rest)))
@@ -70,7 +70,7 @@ abbrev pub says : List ℕ → Option Says
 says [] = Some Nothing
 says (c ∷ cs) = cond (c == 35) (Some Nothing) (said_by (word_in (c ∷ cs)) (behind_word (c ∷ cs)))
 
--- the same of a line that has been read
+-- what a line that has been read says
 abbrev pub says_of : Said → Says
 says_of SaidNothing = Nothing
 says_of (SaidNew capacity slots) = New capacity slots

@@ -2,7 +2,7 @@ use Rattle.std.proofs.Common.{rules, ◌≡◌, option_map, List, ℕ, sym, ◌�
 use Rattle.scripts.specs.Lines.{says, said_by}
 use Rattle.scripts.proofs.Words.{says_by, no_word}
 use Rattle.scripts.proofs.reading.said_in.Goals as goal
-use Rattle.scripts.proofs.reading.said_in.Goals.{After-split_blank, in-new-Some, in-other-None, in_default-2+in_ok-step_in-in_default-2, in_default-2-via-in-new-0+in-None, in_default-2-via-in-other-0+in-Some, in_default-2-via-in_default-2}
+use Rattle.scripts.proofs.reading.said_in.Goals.{After-split_blank}
 
 by_word : (c : After-split_blank) → says c.args.line.now ≡ said_by c.split_blank.result.0.now (option_map {T = Bor (List ℕ)} {U = List ℕ} (λ r. r.now) c.split_blank.result.1)
 by_word c =
