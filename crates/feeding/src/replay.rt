@@ -1,7 +1,8 @@
 // Scripts of calls, done to controllers over both stores.
-ghost use Rattle.std.specs.Prelude.{◌≡◌, ℕ, ◌<◌, ◌↔◌, IsTrue, IfOk, length, map, slice_get};
+ghost use Rattle.std.specs.Prelude.{◌≡◌, ℕ, ◌<◌, ◌↔◌, IsTrue, IfOk, Ok, length, map, slice_get};
 ghost use Rattle.ordered.specs.Tables.{items};
 ghost use Rattle.runs.specs.Runs.{asked};
+ghost use Rattle.scripts.specs.Histories.{told, histories_of};
 ghost use Rattle.scripts.specs.Steps.{call_of};
 
 use anyhow::anyhow;
@@ -15,7 +16,7 @@ use runs::call::Call;
 use runs::plan::{Plan, Ran};
 use runs::run::run_both;
 use scripts::history::History;
-use scripts::reading::histories_in;
+use scripts::reading::{Unread, histories_in};
 use scripts::step::Step;
 use std::alloc::AllocError;
 use std::fs;
@@ -219,10 +220,23 @@ fn replay_over_both(
     replay(rt, history, table, bag, tally)
 }
 
+// The histories of a script, or an error that names the line that is none of a script.
+fn histories_of(rt: &HostRuntime, name: &str, script: &[u8]) -> anyhow::Result<Vec<History>>
+    ensures { IfOk result (λ histories. histories_of script.now ≡ Ok (map told histories.items)) }
+{
+    match histories_in(rt.alloc(), script) {
+        Ok(histories) => Ok(histories),
+        Err(Unread::Line(number)) => {
+            Err(anyhow!("script {name}, line {number}: no line of a script"))
+        }
+        Err(Unread::Memory(error)) => Err(error.into()),
+    }
+}
+
 // Does the histories of a script, and prints what came of each call.
 pub fn print_script(rt: &HostRuntime, name: &str) -> anyhow::Result<()> {
     let script = fs::read(rt, name)?;
-    let histories = histories_in(rt.alloc(), name, script.as_slice())?;
+    let histories = histories_of(rt, name, script.as_slice())?;
     println!(rt; "script {name}")?;
     let mut tally = Tally::new();
     for (place, history) in histories.iter().enumerate() {

@@ -8,7 +8,6 @@ ghost use Rattle.scripts.specs.declared.reading.Unread.TheVariants.{Line, Memory
 use crate::history::History;
 use crate::step::Step;
 use crate::text::{meant, number_up_to, split_blank};
-use anyhow::anyhow;
 use files::Rows;
 use std::alloc::{AllocError, Global};
 
@@ -115,7 +114,7 @@ fn take(alloc: Global, histories: &mut Vec<History>, said: Said) -> Result<bool,
 
 // Why a script is not read: a line, by its number, or no memory.
 #[derive(Drop)]
-enum Unread {
+pub enum Unread {
     Line(usize),
     Memory(AllocError),
 }
@@ -129,7 +128,7 @@ impl From<AllocError> for Unread {
 }
 
 // The histories of a script. A line that is none of a script, or stands where it may not, is told by its number.
-fn read(alloc: Global, script: &[u8]) -> Result<Vec<History>, Unread>
+pub fn histories_in(alloc: Global, script: &[u8]) -> Result<Vec<History>, Unread>
     ensures histories { IfOk result (λ histories. histories_of script.now ≡ Ok (map told histories.items)) }
     ensures unread { (number : ℕ) → result ≡ Err (Line number) → histories_of script.now ≡ Err number }
 {
@@ -144,17 +143,4 @@ fn read(alloc: Global, script: &[u8]) -> Result<Vec<History>, Unread>
         }
     }
     Ok(histories)
-}
-
-// The histories of a script, or an error that names the line that is none of a script.
-pub fn histories_in(alloc: Global, name: &str, script: &[u8]) -> anyhow::Result<Vec<History>>
-    ensures { IfOk result (λ histories. histories_of script.now ≡ Ok (map told histories.items)) }
-{
-    match read(alloc, script) {
-        Ok(histories) => Ok(histories),
-        Err(Unread::Line(number)) => {
-            Err(anyhow!("script {name}, line {number}: no line of a script"))
-        }
-        Err(Unread::Memory(error)) => Err(error.into()),
-    }
 }

@@ -1,7 +1,7 @@
 use Rattle.std.proofs.Common.{◌≡◌, ◌+◌, map}
 use Rattle.std.specs.Iterator.Adapters.{enumerate_source, enumerate_count}
 use Rattle.scripts.specs.Histories.{told, lines_of, after_all, histories_of}
-use Rattle.scripts.proofs.reading.read.Given as goal
+use Rattle.scripts.proofs.reading.histories_in.Given as goal
 
 abbrev pub invariant-loop-place : goal.invariant-loop-place
 invariant-loop-place l =

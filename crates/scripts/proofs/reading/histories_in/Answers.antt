@@ -3,8 +3,8 @@ use Rattle.std.specs.Iterator.Adapters.{enumerate_source, enumerate_count}
 use Rattle.scripts.specs.Lines.{says_of}
 use Rattle.scripts.specs.Histories.{told, lines_of, after_all}
 use Rattle.scripts.proofs.Turns.{line_taken, line_refused, line_none}
-use Rattle.scripts.proofs.reading.read.Goals as goal
-use Rattle.scripts.proofs.reading.read.Goals.{in-Some-2+in_ok-taken-in-Some-2, in-None-2}
+use Rattle.scripts.proofs.reading.histories_in.Goals as goal
+use Rattle.scripts.proofs.reading.histories_in.Goals.{in-Some-2+in_ok-taken-in-Some-2, in-None-2}
 
 pub returns-then-not-taken-clause-unread : goal.returns-then-not-taken-clause-unread
 returns-then-not-taken-clause-unread c number e =
