@@ -41,26 +41,6 @@ meant_first (c ∷ cs) b rest h =
     ]
     h
 
--- behind a `\` without two hexadecimal digits there is nothing that a text stands for
-pub none_behind : (text : List ℕ) → escaped text ≡ None → meant_escaped text ≡ None
-none_behind [] h = refl
-none_behind (high ∷ []) h = refl
-none_behind (high ∷ low ∷ others) h =
-    elim (hex_byte high low) as (λ (o : Option ℕ). option_map {U = ℕ × List ℕ} (λ x. (x, others)) o ≡ None → and_then o (λ x. option_map (λ bs. x ∷ bs) (meant others)) ≡ None) [
-      | Some x ↦ λ e. absurd (no_first x others e)
-      | None ↦ λ e. refl
-    ]
-    h
-
-pub none_first : (text : List ℕ) → 0 < length text → first_meant text ≡ None → meant text ≡ None
-none_first [] l h = absurd (omega arith)
-none_first (c ∷ cs) l h =
-    elim (c == 92) as (λ (t : Bool). cond t (escaped cs) (Some (c, cs)) ≡ None → cond t (meant_escaped cs) (option_map (λ bs. c ∷ bs) (meant cs)) ≡ None) [
-      | true ↦ λ e. none_behind cs e
-      | false ↦ λ e. absurd (no_first c cs e)
-    ]
-    h
-
 -- a byte that is put behind those before it
 pub one_more : (out : List ℕ) (b : ℕ) (more : Option (List ℕ)) → option_map (λ bs. (out ++ b ∷ []) ++ bs) more ≡ option_map (λ bs. out ++ bs) (option_map (λ bs. b ∷ bs) more)
 one_more out b (Some bs) = ap (λ (x : List ℕ). Some x) (append_assoc out (b ∷ []) bs)

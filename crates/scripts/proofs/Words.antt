@@ -1,4 +1,4 @@
--- Where the word of a line ends, and how the lines of a text follow one another.
+-- Where the word of a line ends, and what a line says by its word.
 use Rattle.std.proofs.Common.{◌≡◌, ◌≢◌, ℕ, ◌+◌, ◌<◌, ◌≤◌, Bool, true, false, not, cond, eqb, ltb, List, [], ◌∷◌, length, take, drop, get_or, Some, None, Option, refl, ap, sym, subst, ◌∙◌, suc, arith}
 use Rattle.std.specs.List.{position_or_len}
 use Rattle.std.proofs.lemmas.Bool.Decides.{nat_tests}
