@@ -54,6 +54,8 @@ impl<'a> Side<'a> {
     // The calls, to be done over a store.
     fn plan<'b, S>(&'b mut self, store: S) -> Plan<'b, S>
         ensures calls { result.calls.now ≡ self.old.calls.items }
+        ensures slots { result.slots.now ≡ self.old.lines.items }
+        ensures answers { result.answers.now ≡ self.old.answers.items }
         ensures store { result.store ≡ store }
     {
         Plan {
