@@ -89,9 +89,9 @@ fn add_train<T: Timetable>(
 ) -> Option<Key>
     requires room { length (items lines.old) + 2 ≤ room lines.old }
     requires fresh { Fresh (items lines.old) first.uid }
-    requires first { IsFirst (T.Timetable.map timetable.old) first }
-    ensures trained { Trained (T.Timetable.map timetable.old) shown.now.station shown.now.day first.uid (items lines.old) (items lines.new) }
-    ensures next { result ≡ not_before (T.Timetable.map timetable.old) (first_of (first.uid + 1)) }
+    requires first { IsFirst (T.meaning timetable.old).map first }
+    ensures trained { Trained (T.meaning timetable.old).map shown.now.station shown.now.day first.uid (items lines.old) (items lines.new) }
+    ensures next { result ≡ not_before (T.meaning timetable.old).map (first_of (first.uid + 1)) }
     ensures grown { Grown lines.old lines.new }
     ensures room { room lines.new ≡ room lines.old }
     ensures lender { lines.new.slots.ghost_name ≡ lines.old.slots.ghost_name }
@@ -110,9 +110,9 @@ fn add_train<T: Timetable>(
 
 // Gathers the lines of a station and day in any order, train by train.
 fn gather_lines<T: Timetable>(timetable: &mut T, lines: &mut Slots<'_, Line>, shown: &StationDay)
-    requires room { 2 * length (T.Timetable.map timetable.old) ≤ room lines.old }
-    ensures lines { AllLines (T.Timetable.map timetable.old) shown.now.station shown.now.day (items lines.new) }
-    ensures few { length (items lines.new) ≤ 2 * length (T.Timetable.map timetable.old) }
+    requires room { 2 * length (T.meaning timetable.old).map ≤ room lines.old }
+    ensures lines { AllLines (T.meaning timetable.old).map shown.now.station shown.now.day (items lines.new) }
+    ensures few { length (items lines.new) ≤ 2 * length (T.meaning timetable.old).map }
     ensures rest { RestKept lines.old lines.new }
     ensures room { room lines.new ≡ room lines.old }
     ensures lender { lines.new.slots.ghost_name ≡ lines.old.slots.ghost_name }
@@ -132,9 +132,9 @@ pub(crate) fn set_lines<T: Timetable>(
     lines: &mut Ordered<'_, Line>,
     shown: &StationDay,
 )
-    requires room { 2 * length (T.Timetable.map timetable.old) ≤ room lines.old.inner }
-    ensures board { BoardOf (T.Timetable.map timetable.old) shown.now.station shown.now.day (items lines.new.inner) }
-    ensures few { length (items lines.new.inner) ≤ 2 * length (T.Timetable.map timetable.old) }
+    requires room { 2 * length (T.meaning timetable.old).map ≤ room lines.old.inner }
+    ensures board { BoardOf (T.meaning timetable.old).map shown.now.station shown.now.day (items lines.new.inner) }
+    ensures few { length (items lines.new.inner) ≤ 2 * length (T.meaning timetable.old).map }
     ensures rest { RestKept lines.old.inner lines.new.inner }
     ensures room { room lines.new.inner ≡ room lines.old.inner }
     ensures same { timetable.new ≡ timetable.old }

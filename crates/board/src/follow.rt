@@ -14,8 +14,8 @@ use timetable::{Store, Timetable};
 impl Board<'_> {
     // Whether there are line slots enough for a store: twice as many as its capacity.
     pub fn suits<S: Store>(&mut self, store: &mut S) -> Result<(), ColumnFault>
-        ensures told { fault_of result ≡ uppermost (slot_lines (room self.old.lines.inner) (S.Timetable.capacity store.old)) }
-        ensures enough { is_ok result ≡ true → 2 * length (S.Timetable.map store.old) ≤ room self.old.lines.inner }
+        ensures told { fault_of result ≡ uppermost (slot_lines (room self.old.lines.inner) (S.meaning store.old).capacity) }
+        ensures enough { is_ok result ≡ true → 2 * length (S.meaning store.old).map ≤ room self.old.lines.inner }
         ensures same { self.new ≡ self.old }
         ensures store { store.new ≡ store.old }
     {
@@ -27,8 +27,8 @@ impl Board<'_> {
 
     // Sets the lines to those that the store's map gives for the board's station and day. Without a station there are none.
     pub fn follow<S: Store>(&mut self, store: &mut S) -> Result<(), ColumnFault>
-        ensures told { fault_of result ≡ uppermost (slot_lines (room self.old.lines.inner) (S.Timetable.capacity store.old)) }
-        ensures lines { is_ok result ≡ true → LinesFor (S.Timetable.map store.old) self.old.shown (items self.new.lines.inner) }
+        ensures told { fault_of result ≡ uppermost (slot_lines (room self.old.lines.inner) (S.meaning store.old).capacity) }
+        ensures lines { is_ok result ≡ true → LinesFor (S.meaning store.old).map self.old.shown (items self.new.lines.inner) }
         ensures shown { self.new.shown ≡ self.old.shown }
         ensures slots { room self.new.lines.inner ≡ room self.old.lines.inner }
         ensures rest { RestKept self.old.lines.inner self.new.lines.inner }

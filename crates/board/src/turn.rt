@@ -64,9 +64,9 @@ impl Board<'_> {
         station: &[u8],
         day: u32,
     ) -> Result<(), ColumnFault>
-        ensures told { fault_of result ≡ uppermost (turn_lines station.now day (room self.old.lines.inner) (S.Timetable.capacity store.old)) }
-        ensures board { is_ok result ≡ true → BoardOf (S.Timetable.map store.old) station.now day (items self.new.lines.inner) }
-        ensures few { is_ok result ≡ true → length (items self.new.lines.inner) ≤ 2 * length (S.Timetable.map store.old) }
+        ensures told { fault_of result ≡ uppermost (turn_lines station.now day (room self.old.lines.inner) (S.meaning store.old).capacity) }
+        ensures board { is_ok result ≡ true → BoardOf (S.meaning store.old).map station.now day (items self.new.lines.inner) }
+        ensures few { is_ok result ≡ true → length (items self.new.lines.inner) ≤ 2 * length (S.meaning store.old).map }
         ensures set { is_ok result ≡ true → self.new.shown ≡ Some (record { station = station.now; day = day }) }
         ensures slots { room self.new.lines.inner ≡ room self.old.lines.inner }
         ensures rest { RestKept self.old.lines.inner self.new.lines.inner }

@@ -25,8 +25,8 @@ impl<S: Store> Controller<S> {
         ensures store { result.overlay.store ≡ store }
         ensures reference { result.reference ≡ seven_blanks }
         ensures tally { result.tally ≡ 0 }
-        ensures agrees { length (S.Timetable.map store) ≤ S.Timetable.capacity store → Agrees (S.Timetable.map store) (S.Timetable.capacity store) [] (progress_in result) }
-        ensures keeps { (b : Board) → b.shown ≡ None → items b.lines.inner ≡ [] → length (S.Timetable.map store) ≤ S.Timetable.capacity store → KeepsTo (state_in S.Timetable.map S.Timetable.capacity result b) (new_ledger (S.Timetable.map store)) }
+        ensures agrees { length (S.meaning store).map ≤ (S.meaning store).capacity → Agrees (S.meaning store).map (S.meaning store).capacity [] (progress_in result) }
+        ensures keeps { (b : Board) → b.shown ≡ None → items b.lines.inner ≡ [] → length (S.meaning store).map ≤ (S.meaning store).capacity → KeepsTo (state_in S.meaning result b) (new_ledger (S.meaning store).map) }
     {
         Controller {
             overlay: Overlay::new(store),
@@ -38,15 +38,15 @@ impl<S: Store> Controller<S> {
 
     // Opens an extract with its HD row.
     pub fn open(&mut self, row: &[u8]) -> Result<(), ExtractFault>
-        ensures told { fault_of result ≡ refusal_of (ToOpen row.now) (standing_in S.Timetable.map S.Timetable.capacity self.old) 0 }
+        ensures told { fault_of result ≡ refusal_of (ToOpen row.now) (standing_in S.meaning self.old) 0 }
         ensures taken { is_ok result ≡ true → progress_in self.new ≡ after_row (progress_in self.old) row.now }
         ensures unchanged { is_ok result ≡ false → self.new ≡ self.old }
         ensures store { self.new.overlay.store ≡ self.old.overlay.store }
         ensures reference { self.new.reference ≡ self.old.reference }
         ensures tally { self.new.tally ≡ self.old.tally }
-        ensures agrees { (rows : List (List ℕ)) → Agrees (S.Timetable.map self.old.overlay.store) (S.Timetable.capacity self.old.overlay.store) rows (progress_in self.old) → is_ok result ≡ true
-            → Agrees (S.Timetable.map self.new.overlay.store) (S.Timetable.capacity self.new.overlay.store) (rows ++ row.now ∷ []) (progress_in self.new) }
-        ensures obeys { (b : Board) → Obeys (state_in S.Timetable.map S.Timetable.capacity self.old b) (state_in S.Timetable.map S.Timetable.capacity self.new b) (ToOpen row.now) (answered result) }
+        ensures agrees { (rows : List (List ℕ)) → Agrees (S.meaning self.old.overlay.store).map (S.meaning self.old.overlay.store).capacity rows (progress_in self.old) → is_ok result ≡ true
+            → Agrees (S.meaning self.new.overlay.store).map (S.meaning self.new.overlay.store).capacity (rows ++ row.now ∷ []) (progress_in self.new) }
+        ensures obeys { (b : Board) → Obeys (state_in S.meaning self.old b) (state_in S.meaning self.new b) (ToOpen row.now) (answered result) }
     {
         let number = self.extract.rows_taken() + 1;
         numbered(self.hear_opening(row), number)
@@ -54,15 +54,15 @@ impl<S: Store> Controller<S> {
 
     // Takes a row of the open extract that is not its HD.
     pub fn row(&mut self, row: &[u8]) -> Result<(), ExtractFault>
-        ensures told { fault_of result ≡ refusal_of (ToHear row.now) (standing_in S.Timetable.map S.Timetable.capacity self.old) 0 }
+        ensures told { fault_of result ≡ refusal_of (ToHear row.now) (standing_in S.meaning self.old) 0 }
         ensures taken { is_ok result ≡ true → progress_in self.new ≡ after_row (progress_in self.old) row.now }
         ensures unchanged { is_ok result ≡ false → self.new ≡ self.old }
         ensures store { self.new.overlay.store ≡ self.old.overlay.store }
         ensures reference { self.new.reference ≡ self.old.reference }
         ensures tally { self.new.tally ≡ self.old.tally }
-        ensures agrees { (rows : List (List ℕ)) → Agrees (S.Timetable.map self.old.overlay.store) (S.Timetable.capacity self.old.overlay.store) rows (progress_in self.old) → is_ok result ≡ true
-            → Agrees (S.Timetable.map self.new.overlay.store) (S.Timetable.capacity self.new.overlay.store) (rows ++ row.now ∷ []) (progress_in self.new) }
-        ensures obeys { (b : Board) → Obeys (state_in S.Timetable.map S.Timetable.capacity self.old b) (state_in S.Timetable.map S.Timetable.capacity self.new b) (ToHear row.now) (answered result) }
+        ensures agrees { (rows : List (List ℕ)) → Agrees (S.meaning self.old.overlay.store).map (S.meaning self.old.overlay.store).capacity rows (progress_in self.old) → is_ok result ≡ true
+            → Agrees (S.meaning self.new.overlay.store).map (S.meaning self.new.overlay.store).capacity (rows ++ row.now ∷ []) (progress_in self.new) }
+        ensures obeys { (b : Board) → Obeys (state_in S.meaning self.old b) (state_in S.meaning self.new b) (ToHear row.now) (answered result) }
     {
         let number = self.extract.rows_taken() + 1;
         numbered(self.hear(row), number)
@@ -70,15 +70,15 @@ impl<S: Store> Controller<S> {
 
     // Drops the open extract and all that is pending.
     pub fn abandon(&mut self) -> Result<(), ExtractFault>
-        ensures told { fault_of result ≡ refusal_of ToAbandon (standing_in S.Timetable.map S.Timetable.capacity self.old) 0 }
+        ensures told { fault_of result ≡ refusal_of ToAbandon (standing_in S.meaning self.old) 0 }
         ensures dropped { is_ok result ≡ true → progress_in self.new ≡ idle }
         ensures unchanged { is_ok result ≡ false → self.new ≡ self.old }
         ensures store { self.new.overlay.store ≡ self.old.overlay.store }
         ensures reference { self.new.reference ≡ self.old.reference }
         ensures tally { self.new.tally ≡ self.old.tally }
-        ensures agrees { (rows : List (List ℕ)) → Agrees (S.Timetable.map self.old.overlay.store) (S.Timetable.capacity self.old.overlay.store) rows (progress_in self.old) → is_ok result ≡ true
-            → Agrees (S.Timetable.map self.new.overlay.store) (S.Timetable.capacity self.new.overlay.store) [] (progress_in self.new) }
-        ensures obeys { (b : Board) → Obeys (state_in S.Timetable.map S.Timetable.capacity self.old b) (state_in S.Timetable.map S.Timetable.capacity self.new b) ToAbandon (answered result) }
+        ensures agrees { (rows : List (List ℕ)) → Agrees (S.meaning self.old.overlay.store).map (S.meaning self.old.overlay.store).capacity rows (progress_in self.old) → is_ok result ≡ true
+            → Agrees (S.meaning self.new.overlay.store).map (S.meaning self.new.overlay.store).capacity [] (progress_in self.new) }
+        ensures obeys { (b : Board) → Obeys (state_in S.meaning self.old b) (state_in S.meaning self.new b) ToAbandon (answered result) }
     {
         without_row(self.extract.abandon())?;
         self.overlay.pending.clear();

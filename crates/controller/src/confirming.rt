@@ -22,7 +22,7 @@ use timetable::Store;
 impl<S: Store> Controller<S> {
     // Whether the extract is complete and the board has line slots enough.
     fn may_confirm(&mut self, board: &mut Board<'_>) -> Result<(), ColumnFault>
-        ensures told { fault_of result ≡ uppermost (confirm_lines (standing_in S.Timetable.map S.Timetable.capacity self.old) (room board.old.lines.inner)) }
+        ensures told { fault_of result ≡ uppermost (confirm_lines (standing_in S.meaning self.old) (room board.old.lines.inner)) }
         ensures same { (self.new ≡ self.old) × (board.new ≡ board.old) }
     {
         if self.extract.stage() != Stage::Complete {
@@ -33,17 +33,17 @@ impl<S: Store> Controller<S> {
 
     // Does what is pending to the store, and sets the lines of the board to those of the new map for its station and day.
     pub fn confirm(&mut self, board: &mut Board<'_>) -> Result<(), ExtractFault>
-        ensures told { fault_of result ≡ refusal_of ToConfirm (standing_in S.Timetable.map S.Timetable.capacity self.old) (room board.old.lines.inner) }
-        ensures map { is_ok result ≡ true → S.Timetable.map self.new.overlay.store ≡ tried_all (S.Timetable.capacity self.old.overlay.store) (S.Timetable.map self.old.overlay.store) (progress_in self.old).changes }
-        ensures lines { is_ok result ≡ true → LinesFor (S.Timetable.map self.new.overlay.store) board.old.shown (items board.new.lines.inner) }
+        ensures told { fault_of result ≡ refusal_of ToConfirm (standing_in S.meaning self.old) (room board.old.lines.inner) }
+        ensures map { is_ok result ≡ true → (S.meaning self.new.overlay.store).map ≡ tried_all (S.meaning self.old.overlay.store).capacity (S.meaning self.old.overlay.store).map (progress_in self.old).changes }
+        ensures lines { is_ok result ≡ true → LinesFor (S.meaning self.new.overlay.store).map board.old.shown (items board.new.lines.inner) }
         ensures reference { is_ok result ≡ true → self.new.reference ≡ (progress_in self.old).current }
         ensures tally { is_ok result ≡ true → self.new.tally ≡ min (self.old.tally + length (progress_in self.old).changes) 4294967295 }
         ensures idle { is_ok result ≡ true → progress_in self.new ≡ idle }
-        ensures capacity { S.Timetable.capacity self.new.overlay.store ≡ S.Timetable.capacity self.old.overlay.store }
+        ensures capacity { (S.meaning self.new.overlay.store).capacity ≡ (S.meaning self.old.overlay.store).capacity }
         ensures board { (board.new.shown ≡ board.old.shown) × (room board.new.lines.inner ≡ room board.old.lines.inner) }
         ensures rest { RestKept board.old.lines.inner board.new.lines.inner }
         ensures unchanged { is_ok result ≡ false → (self.new ≡ self.old) × (board.new ≡ board.old) }
-        ensures obeys { Obeys (state_in S.Timetable.map S.Timetable.capacity self.old board.old) (state_in S.Timetable.map S.Timetable.capacity self.new board.new) ToConfirm (answered result) }
+        ensures obeys { Obeys (state_in S.meaning self.old board.old) (state_in S.meaning self.new board.new) ToConfirm (answered result) }
     {
         without_row(self.may_confirm(board))?;
         let count = self.overlay.pending.len() as u32;

@@ -12,7 +12,7 @@ use timetable::Store;
 impl<S: Store> Controller<S> {
     // Takes a row by the stage, or tells the fault with the row's identity.
     pub(crate) fn hear(&mut self, bytes: &[u8]) -> Result<(), RowFault>
-        ensures told { Told (progress_in self.new) (heard_by is_misplaced (standing_in S.Timetable.map S.Timetable.capacity self.old) bytes.now) result }
+        ensures told { Told (progress_in self.new) (heard_by is_misplaced (standing_in S.meaning self.old) bytes.now) result }
         ensures unchanged { is_ok result ≡ false → self.new ≡ self.old }
         ensures store { self.new.overlay.store ≡ self.old.overlay.store }
         ensures reference { self.new.reference ≡ self.old.reference }
@@ -26,7 +26,7 @@ impl<S: Store> Controller<S> {
 
     // Opens an extract, or tells the fault with the row's identity.
     pub(crate) fn hear_opening(&mut self, bytes: &[u8]) -> Result<(), RowFault>
-        ensures told { Told (progress_in self.new) (heard_by is_no_opening (standing_in S.Timetable.map S.Timetable.capacity self.old) bytes.now) result }
+        ensures told { Told (progress_in self.new) (heard_by is_no_opening (standing_in S.meaning self.old) bytes.now) result }
         ensures unchanged { is_ok result ≡ false → self.new ≡ self.old }
         ensures store { self.new.overlay ≡ self.old.overlay }
         ensures reference { self.new.reference ≡ self.old.reference }

@@ -22,14 +22,14 @@ impl<S: Store> Controller<S> {
         station: &[u8],
         day: u32,
     ) -> Result<(), ExtractFault>
-        ensures told { fault_of result ≡ refusal_of (ToTurn station.now day) (standing_in S.Timetable.map S.Timetable.capacity self.old) (room board.old.lines.inner) }
-        ensures lines { is_ok result ≡ true → BoardOf (S.Timetable.map self.old.overlay.store) station.now day (items board.new.lines.inner) }
+        ensures told { fault_of result ≡ refusal_of (ToTurn station.now day) (standing_in S.meaning self.old) (room board.old.lines.inner) }
+        ensures lines { is_ok result ≡ true → BoardOf (S.meaning self.old.overlay.store).map station.now day (items board.new.lines.inner) }
         ensures set { is_ok result ≡ true → board.new.shown ≡ Some (record { station = station.now; day = day }) }
         ensures slots { room board.new.lines.inner ≡ room board.old.lines.inner }
         ensures rest { RestKept board.old.lines.inner board.new.lines.inner }
         ensures unchanged { is_ok result ≡ false → board.new ≡ board.old }
         ensures same { self.new ≡ self.old }
-        ensures obeys { Obeys (state_in S.Timetable.map S.Timetable.capacity self.old board.old) (state_in S.Timetable.map S.Timetable.capacity self.new board.new) (ToTurn station.now day) (answered result) }
+        ensures obeys { Obeys (state_in S.meaning self.old board.old) (state_in S.meaning self.new board.new) (ToTurn station.now day) (answered result) }
     {
         without_row(board.turn(&mut self.overlay.store, station, day))
     }

@@ -92,7 +92,7 @@ impl Extract {
         key: Key,
         new: bool,
     ) -> Result<(), ColumnFault>
-        ensures told { fault_of result ≡ uppermost (change_lines new (is_some (schedule_of (overlay_of S.Timetable.map overlay.old) key)) (nat_le 9999 self.now.taken || nat_le 32 (length (pending_in overlay.old.pending))) (length (overlay_of S.Timetable.map overlay.old) == S.Timetable.capacity overlay.old.store)) }
+        ensures told { fault_of result ≡ uppermost (change_lines new (is_some (schedule_of (overlay_of S.meaning overlay.old) key)) (nat_le 9999 self.now.taken || nat_le 32 (length (pending_in overlay.old.pending))) (length (overlay_of S.meaning overlay.old) == (S.meaning overlay.old.store).capacity)) }
         ensures room { is_ok result ≡ true → (self.now.taken < 9999) × (length (pending_in overlay.old.pending) < 32) }
         ensures same { overlay.new ≡ overlay.old }
     {
@@ -120,8 +120,8 @@ impl Extract {
     ) -> Result<Transaction, ColumnFault>
         requires range { range_in b.now b.now.change ≡ true }
         ensures told { (reference : List ℕ) → MatchResult result
-            (λ t. (plain_of t ≡ asked_by b.now b.now.change) × (uppermost (content_lines (standing S.Timetable.map S.Timetable.capacity self.now overlay.old reference) (OfSchedule b.now)) ≡ None))
-            (λ e. uppermost (content_lines (standing S.Timetable.map S.Timetable.capacity self.now overlay.old reference) (OfSchedule b.now)) ≡ Some e) }
+            (λ t. (plain_of t ≡ asked_by b.now b.now.change) × (uppermost (content_lines (standing S.meaning self.now overlay.old reference) (OfSchedule b.now)) ≡ None))
+            (λ e. uppermost (content_lines (standing S.meaning self.now overlay.old reference) (OfSchedule b.now)) ≡ Some e) }
         ensures room { is_ok result ≡ true → (self.now.taken < 9999) × (length (pending_in overlay.old.pending) < 32) }
         ensures same { overlay.new ≡ overlay.old }
     {

@@ -82,7 +82,7 @@ impl Extract {
         b: &BasicSchedule,
     ) -> Result<(), ColumnFault>
         requires range { range_in b.now b.now.change ≡ true }
-        ensures told { (reference : List ℕ) → self.old.stage ≡ IsBetween → Told (seen self.new (pending_in overlay.new.pending)) (admitted (standing S.Timetable.map S.Timetable.capacity self.old overlay.old reference) (OfSchedule b.now)) result }
+        ensures told { (reference : List ℕ) → self.old.stage ≡ IsBetween → Told (seen self.new (pending_in overlay.new.pending)) (admitted (standing S.meaning self.old overlay.old reference) (OfSchedule b.now)) result }
         ensures unchanged { is_ok result ≡ false → (self.new ≡ self.old) × (overlay.new ≡ overlay.old) }
         ensures room { self.old.stage ≡ IsBetween → is_ok result ≡ true → has_room self.new.stage (length (pending_in overlay.new.pending)) ≡ true }
         ensures store { overlay.new.store ≡ overlay.old.store }

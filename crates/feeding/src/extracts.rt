@@ -25,7 +25,7 @@ use wording::words::{Text, stage_name};
 
 // Hands a row to the controller: an HD row by open, any other by row.
 pub fn hand<S: Store>(controller: &mut Controller<S>, row: &[u8]) -> Result<(), ExtractFault>
-    ensures told { fault_of result ≡ refusal_of (handed row.now) (standing_in S.Timetable.map S.Timetable.capacity controller.old) 0 }
+    ensures told { fault_of result ≡ refusal_of (handed row.now) (standing_in S.meaning controller.old) 0 }
     ensures unchanged { is_ok result ≡ false → controller.new ≡ controller.old }
     ensures store { controller.new.overlay.store ≡ controller.old.overlay.store }
 {

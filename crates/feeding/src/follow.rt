@@ -47,7 +47,7 @@ impl<'a, 'b, S: Store + Drop> Followed<'a, 'b, S> {
         ensures store { result.controller.overlay.store ≡ store }
         ensures idle { progress_in result.controller ≡ idle }
         ensures slots { room result.board.lines.inner ≡ length lines.old }
-        ensures follows { Follows S.Timetable.map result }
+        ensures follows { Follows (S.meaning result).map }
     {
         let most = lines.len();
         Followed {
@@ -62,7 +62,7 @@ impl<'a, 'b, S: Store + Drop> Followed<'a, 'b, S> {
 
     // Turns the board to what is wanted.
     fn turned(&mut self, rt: &HostRuntime) -> anyhow::Result<Result<(), Refusal>>
-        ensures follows { Follows S.Timetable.map self.old → Follows S.Timetable.map self.new }
+        ensures follows { Follows (S.meaning self.old).map → Follows (S.meaning self.new).map }
         ensures controller { self.new.controller ≡ self.old.controller }
         ensures unchanged { IfOk result (λ done. is_ok done ≡ false → self.new ≡ self.old) }
     {
@@ -79,7 +79,7 @@ impl<'a, 'b, S: Store + Drop> Followed<'a, 'b, S> {
 
     // Turns the board to what is wanted, and prints how many lines it has or why it cannot be turned.
     pub fn turn(&mut self, rt: &HostRuntime) -> anyhow::Result<()>
-        ensures follows { Follows S.Timetable.map self.old → Follows S.Timetable.map self.new }
+        ensures follows { Follows (S.meaning self.old).map → Follows (S.meaning self.new).map }
         ensures controller { self.new.controller ≡ self.old.controller }
     {
         match self.turned(rt)? {
@@ -121,9 +121,9 @@ impl<'a, 'b, S: Store + Drop> Followed<'a, 'b, S> {
     // Confirms the open extract, or drops it where a row of it was refused or it is not complete.
     fn end(&mut self) -> Outcome
         ensures spoiled { 0 < self.old.refused → (result ≡ Outcome.Abandoned self.old.refused) × SameStoreAndBoard self.old self.new }
-        ensures whole { self.old.refused ≡ 0 → is_stage (progress_in self.old.controller).stage Complete ≡ true → 2 * S.Timetable.capacity self.old.controller.overlay.store ≤ room self.old.board.lines.inner → result ≡ Outcome.Confirmed }
-        ensures confirmed { result ≡ Outcome.Confirmed → S.Timetable.map self.new.controller.overlay.store ≡ tried_all (S.Timetable.capacity self.old.controller.overlay.store) (S.Timetable.map self.old.controller.overlay.store) (progress_in self.old.controller).changes }
-        ensures follows { Follows S.Timetable.map self.old → Follows S.Timetable.map self.new }
+        ensures whole { self.old.refused ≡ 0 → is_stage (progress_in self.old.controller).stage Complete ≡ true → 2 * (S.meaning self.old.controller.overlay.store).capacity ≤ room self.old.board.lines.inner → result ≡ Outcome.Confirmed }
+        ensures confirmed { result ≡ Outcome.Confirmed → (S.meaning self.new.controller.overlay.store).map ≡ tried_all (S.meaning self.old.controller.overlay.store).capacity (S.meaning self.old.controller.overlay.store).map (progress_in self.old.controller).changes }
+        ensures follows { Follows (S.meaning self.old).map → Follows (S.meaning self.new).map }
         ensures idle { is_stage (progress_in self.old.controller).stage Idle ≡ false → progress_in self.new.controller ≡ idle }
         ensures none { self.new.refused ≡ 0 }
     {
@@ -139,7 +139,7 @@ impl<'a, 'b, S: Store + Drop> Followed<'a, 'b, S> {
     // Ends the open extract, and prints what came of it, after the words for where it ended.
     fn end_extract(&mut self, rt: &HostRuntime) -> anyhow::Result<()>
         ensures spoiled { 0 < self.old.refused → SameStoreAndBoard self.old self.new }
-        ensures follows { Follows S.Timetable.map self.old → Follows S.Timetable.map self.new }
+        ensures follows { Follows (S.meaning self.old).map → Follows (S.meaning self.new).map }
         ensures idle { is_stage (progress_in self.old.controller).stage Idle ≡ false → progress_in self.new.controller ≡ idle }
         ensures none { self.new.refused ≡ 0 }
     {
@@ -191,7 +191,7 @@ impl<'a, 'b, S: Store + Drop> Followed<'a, 'b, S> {
 
     // Hands the rows of a file over, and ends each extract where it is complete or the file ends.
     pub fn take_file(&mut self, rt: &HostRuntime, name: &str) -> anyhow::Result<()>
-        ensures follows { Follows S.Timetable.map self.old → Follows S.Timetable.map self.new }
+        ensures follows { Follows (S.meaning self.old).map → Follows (S.meaning self.new).map }
         ensures idle { is_ok result ≡ true → is_stage (progress_in self.new.controller).stage Idle ≡ true }
     {
         let bytes = fs::read(rt, name)?;

@@ -35,7 +35,7 @@ pub fn empty_line() -> Line
 
 // Line slots for a board of a store: twice as many as it can hold schedules. The store stays as it was.
 pub fn line_slots<S: Store>(rt: &HostRuntime, store: &mut S) -> Result<Vec<Line>, AllocError>
-    ensures slots { IfOk result (λ slots. length slots.items ≡ 2 * S.Timetable.capacity store.old) }
+    ensures slots { IfOk result (λ slots. length slots.items ≡ 2 * (S.meaning store.old).capacity) }
     ensures same { store.new ≡ store.old }
 {
     vec![in rt.alloc(); empty_line(); 2 * store.capacity()]
@@ -43,7 +43,7 @@ pub fn line_slots<S: Store>(rt: &HostRuntime, store: &mut S) -> Result<Vec<Line>
 
 // Does what a row asks, and says whether it was a put that was refused.
 fn is_refused<S: Store>(store: &mut S, asked: Asked) -> bool
-    ensures { S.Timetable.capacity store.new ≡ S.Timetable.capacity store.old }
+    ensures { (S.meaning store.new).capacity ≡ (S.meaning store.old).capacity }
 {
     match asked {
         Asked::Put(schedule) => store.put(schedule).is_err(),
@@ -57,7 +57,7 @@ fn is_refused<S: Store>(store: &mut S, asked: Asked) -> bool
 
 // Puts the schedules of a file into a store, and says how many were refused. Its capacity stays.
 pub fn load_file<S: Store>(rt: &HostRuntime, store: &mut S, name: &str) -> anyhow::Result<u64>
-    ensures { S.Timetable.capacity store.new ≡ S.Timetable.capacity store.old }
+    ensures { (S.meaning store.new).capacity ≡ (S.meaning store.old).capacity }
 {
     let bytes = fs::read(rt, name)?;
     let mut draft = Draft::new();

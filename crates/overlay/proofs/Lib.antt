@@ -4,4 +4,5 @@ pub mod Dones
 pub mod Counts
 pub mod Leasts
 pub mod Trains
+pub mod Permitted
 pub mod Settled

@@ -1,4 +1,5 @@
 pub mod Overlays
+pub mod Permitted
 pub mod Settling
 pub mod Leasts
 pub mod Laws

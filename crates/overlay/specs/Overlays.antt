@@ -7,7 +7,7 @@ use Rattle.schedule.specs.declared.transaction.Change.{Change}
 use Rattle.schedule.specs.declared.transaction.Change.TheVariants.{New, Revise, Delete}
 use Rattle.schedule.specs.Keys.{key_before}
 use Rattle.schedule.specs.Transactions.{changed_key}
-use Rattle.timetable.specs.Timetables.{with_schedule, without_key}
+use Rattle.timetable.specs.Timetables.{Meaning, with_schedule, without_key}
 use Rattle.overlay.specs.declared.pending.Pending.{Pending}
 use Rattle.overlay.specs.declared.overlay.Overlay.{Overlay}
 
@@ -25,9 +25,13 @@ done_all m cs = fold done_to m cs
 abbrev pub pending_in : Pending → List Change
 pending_in p = take p.len p.slots
 
--- the overlay's map: the store's with the pending transactions done to it in order
-abbrev pub overlay_of : {S : Type 0} → (S → List Record) → Overlay S → List Record
-overlay_of map o = done_all (map o.store) (pending_in o.pending)
+-- what a timetable means with transactions done to it in order
+abbrev pub with_done : Meaning → List Change → Meaning
+with_done t cs = record t { map = done_all t.map cs }
+
+-- what the overlay means: the store's map with the pending transactions done to it in order, and the store's capacity
+abbrev pub overlay_of : {S : Type 0} → (S → Meaning) → Overlay S → Meaning
+overlay_of meaning o = with_done (meaning o.store) (pending_in o.pending)
 
 -- the schedule that a transaction leaves under its key
 abbrev pub leaves : Change → Option Record

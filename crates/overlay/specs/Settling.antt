@@ -1,28 +1,27 @@
--- Transactions done to a store, which may find no room.
-use Rattle.std.specs.Prelude.{◌≡◌, ℕ, ◌≤◌, true, cond, ◌||◌, List, length, take, is_some, fold, nat_lt}
+-- Transactions that are tried on a store, which may find no room.
+use Rattle.std.specs.Prelude.{◌≡◌, cond, ◌||◌, List, length, fold, nat_lt}
 use Rattle.schedule.specs.declared.record.Record.{Record}
 use Rattle.schedule.specs.declared.transaction.Change.{Change}
 use Rattle.schedule.specs.declared.transaction.Change.TheVariants.{New, Revise, Delete}
-use Rattle.schedule.specs.Transactions.{every_lawful}
-use Rattle.timetable.specs.Timetables.{schedule_of, with_schedule, without_key, IsMap}
-use Rattle.overlay.specs.Overlays.{done_all}
+use Rattle.timetable.specs.Timetables.{Meaning, with_schedule, without_key}
+use Rattle.timetable.specs.Laws.{has_key}
+use Rattle.overlay.specs.Overlays.{with_done}
+use Rattle.overlay.specs.Permitted.{EachMayBeDone}
 
 -- a schedule set where there is room for its key
-abbrev pub set_within : ℕ → List Record → Record → List Record
-set_within capacity m plain = cond (is_some (schedule_of m plain.key) || nat_lt (length m) capacity) (with_schedule m plain) m
+abbrev pub map_after_put : Meaning → Record → List Record
+map_after_put t r = cond (has_key t.map r.key || nat_lt (length t.map) t.capacity) (with_schedule t.map r) t.map
 
--- a transaction done to a store's map, unless it finds no room
-abbrev pub tried : ℕ → List Record → Change → List Record
-tried capacity m (New plain) = set_within capacity m plain
-tried capacity m (Revise plain) = set_within capacity m plain
-tried capacity m (Delete key) = without_key m key
+-- what a store means after a transaction, which is passed over where it finds no room
+abbrev pub after_try : Meaning → Change → Meaning
+after_try t (New r) = record t { map = map_after_put t r }
+after_try t (Revise r) = record t { map = map_after_put t r }
+after_try t (Delete k) = record t { map = without_key t.map k }
 
--- transactions done in order
-abbrev pub tried_all : ℕ → List Record → List Change → List Record
-tried_all capacity m cs = fold (tried capacity) m cs
+-- and after transactions that are tried in order
+abbrev pub after_tries : Meaning → List Change → Meaning
+after_tries t cs = fold after_try t cs
 
--- where after none of the transactions there are more keys than the capacity, all of them are done
+-- where each of the transactions may be done, all of them are
 abbrev pub RoomForAll : Type 0
-RoomForAll =
-    (capacity : ℕ) (m : List Record) (cs : List Change) → IsMap m → every_lawful cs ≡ true
-    → ((k : ℕ) → length (done_all m (take k cs)) ≤ capacity) → tried_all capacity m cs ≡ done_all m cs
+RoomForAll = (t : Meaning) (cs : List Change) → EachMayBeDone t cs → after_tries t cs ≡ with_done t cs

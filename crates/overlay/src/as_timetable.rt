@@ -10,11 +10,12 @@ use schedule::schedule::Schedule;
 use timetable::{Store, Timetable};
 
 impl<S: Store> Timetable for Overlay<S> {
-    ghost map = { λ o. overlay_of S.Timetable.map o };
+    ghost meaning = { overlay_of S.meaning };
 
-    ghost capacity = { λ o. S.Timetable.capacity o.store };
-
-    ghost is_map = { λ o. all_map (S.Timetable.map o.store) (pending_in o.pending) (S.Timetable.is_map o.store) o.pending.lawful };
+    ghost is_map = {
+        λ o. all_map (S.meaning o.store).map (pending_in o.pending) (S.Timetable.is_map o.store)
+            o.pending.lawful
+    };
 
     fn count(&mut self) -> usize {
         count_after(&mut self.store, &self.pending.all())

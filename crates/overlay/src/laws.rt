@@ -1,24 +1,21 @@
-// Laws of transactions that are done to a map.
+//! Laws of transactions that are done to a map.
 ghost use Rattle.overlay.specs.Laws.{TrainsDecide, UnnamedKeep};
 ghost use Rattle.overlay.specs.Settling.{RoomForAll};
 
-// Transactions that are the same list for each train make one map, in whatever order the trains come.
-pub fn trains_decide() -> u8
+/// Transactions that are the same list for each train make one map, in whatever order the trains come.
+pub fn trains_decide()
     ensures { TrainsDecide }
 {
-    0
 }
 
-// A train that no transaction names keeps its schedules.
-pub fn unnamed_keep() -> u8
+/// A train that no transaction names keeps its schedules.
+pub fn unnamed_keep()
     ensures { UnnamedKeep }
 {
-    0
 }
 
-// Where the store has room for all that is pending, all of it is done.
-pub fn room_for_all() -> u8
+/// Where each of some transactions may be done, a store that they are tried on has all of them done.
+pub fn room_for_all()
     ensures { RoomForAll }
 {
-    0
 }

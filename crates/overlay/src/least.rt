@@ -18,7 +18,7 @@ pub(crate) fn first_untouched<T: Timetable>(
     changes: &[Change],
     probe: Key,
 ) -> Option<Key>
-    ensures least { LeastOf (is_untouched (T.Timetable.map timetable.old) changes.now) probe result }
+    ensures least { LeastOf (is_untouched (T.meaning timetable.old).map changes.now) probe result }
     ensures same { timetable.new ≡ timetable.old }
 {
     let mut from = probe;

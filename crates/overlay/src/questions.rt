@@ -1,8 +1,10 @@
 // What can be asked of a store with transactions pending over it.
 ghost use Rattle.std.specs.Prelude.{◌≡◌, ◌≤◌, Bool, true, false, length, is_some, Some, None, MatchOption};
+ghost use Rattle.std.specs.Bool.{OnFalse};
 ghost use Rattle.std.specs.Option.{unwrap_or};
 ghost use Rattle.schedule.specs.Transactions.{is_lawful};
 ghost use Rattle.timetable.specs.Timetables.{schedule_of};
+ghost use Rattle.timetable.specs.Laws.{has_key};
 ghost use Rattle.overlay.specs.Overlays.{done_all, leaves};
 
 use crate::last::last_on;
@@ -32,7 +34,7 @@ pub(crate) fn schedule_left(change: &Change) -> Option<Schedule>
 
 // Whether a key is there after some transactions.
 pub(crate) fn has_after<T: Timetable>(timetable: &mut T, changes: &Changes<'_>, key: Key) -> bool
-    ensures value { result ≡ is_some (schedule_of (done_all (T.Timetable.map timetable.old) changes.now.list.now) key) }
+    ensures value { result ≡ has_key (done_all (T.meaning timetable.old).map changes.now.list.now) key }
     ensures same { timetable.new ≡ timetable.old }
 {
     match last_on(changes.list, key) {
@@ -48,9 +50,13 @@ pub(crate) fn find_after<T: Timetable>(
     key: Key,
     place: &mut Schedule,
 ) -> bool
-    ensures found { result ≡ is_some (schedule_of (done_all (T.Timetable.map timetable.old) changes.now.list.now) key) }
-    ensures copied { place.new.plain ≡ unwrap_or (schedule_of (done_all (T.Timetable.map timetable.old) changes.now.list.now) key) place.old.plain }
-    ensures left { result ≡ false → place.new ≡ place.old }
+    ensures found { result ≡ has_key (done_all (T.meaning timetable.old).map changes.now.list.now) key }
+    ensures copied {
+        place.new.plain ≡ unwrap_or
+            (schedule_of (done_all (T.meaning timetable.old).map changes.now.list.now) key)
+            place.old.plain
+    }
+    ensures left { OnFalse result (place.new ≡ place.old) }
     ensures same { timetable.new ≡ timetable.old }
 {
     match last_on(changes.list, key) {
@@ -67,7 +73,7 @@ pub(crate) fn find_after<T: Timetable>(
 
 // How many keys there are after some transactions on a store.
 pub(crate) fn count_after<S: Store>(store: &mut S, changes: &Changes<'_>) -> usize
-    ensures value { result ≡ length (done_all (S.Timetable.map store.old) changes.now.list.now) }
+    ensures value { result ≡ length (done_all (S.meaning store.old).map changes.now.list.now) }
     ensures same { store.new ≡ store.old }
 {
     // a store's count is never above its capacity

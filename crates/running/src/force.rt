@@ -58,7 +58,7 @@ impl Walk {
 
     // Looks at the schedule of a key, unless it begins after the day: the best is then that one, or as before.
     fn consider<T: Timetable>(&mut self, timetable: &mut T, key: Key, day: u16)
-        ensures best { (h : Record) → schedule_of (T.Timetable.map timetable.old) key ≡ Some h → held self.new.best ≡ (if takes h day (held self.old.best) then Some h else held self.old.best) }
+        ensures best { (h : Record) → schedule_of (T.meaning timetable.old).map key ≡ Some h → held self.new.best ≡ (if takes h day (held self.old.best) then Some h else held self.old.best) }
         ensures same { timetable.new ≡ timetable.old }
     {
         if day < key.from {
@@ -72,8 +72,8 @@ impl Walk {
     // Walks over a train from a key on, and answers the first key of the next train. From the train's first key on, the best is
     // then the schedule in force on a day, if there is one.
     pub fn train<T: Timetable>(&mut self, timetable: &mut T, first: Key, day: u16) -> Option<Key>
-        ensures best { IsFirst (T.Timetable.map timetable.old) first → MatchOption self.new.best ((s : Record) → Candidate (T.Timetable.map timetable.old) first.uid day s → ⊥) (λ s. InForce (T.Timetable.map timetable.old) first.uid day s.plain) }
-        ensures next { result ≡ not_before (T.Timetable.map timetable.old) (first_of (first.uid + 1)) }
+        ensures best { IsFirst (T.meaning timetable.old).map first → MatchOption self.new.best ((s : Record) → Candidate (T.meaning timetable.old).map first.uid day s → ⊥) (λ s. InForce (T.meaning timetable.old).map first.uid day s.plain) }
+        ensures next { result ≡ not_before (T.meaning timetable.old).map (first_of (first.uid + 1)) }
         ensures same { timetable.new ≡ timetable.old }
     {
         self.best = None;
@@ -101,7 +101,7 @@ pub fn first_of(uid: u32) -> Key
 
 // The schedule of a train that is in force on a day, if there is one.
 pub fn in_force<T: Timetable>(timetable: &mut T, uid: u32, day: u16) -> Option<Schedule>
-    ensures value { MatchOption result ((s : Record) → Candidate (T.Timetable.map timetable.old) uid day s → ⊥) (λ s. InForce (T.Timetable.map timetable.old) uid day s.plain) }
+    ensures value { MatchOption result ((s : Record) → Candidate (T.meaning timetable.old).map uid day s → ⊥) (λ s. InForce (T.meaning timetable.old).map uid day s.plain) }
     ensures same { timetable.new ≡ timetable.old }
 {
     match timetable.not_before(first_of(uid)) {

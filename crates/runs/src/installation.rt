@@ -21,9 +21,9 @@ pub struct Installation<'a, S> {
 impl<'a, S: Store> Installation<'a, S> {
     // A new controller over a store, and a new board over line slots.
     pub fn new(store: S, slots: &'a mut [Line]) -> Installation<'a, S>
-        ensures keeps { length (S.Timetable.map store) ≤ S.Timetable.capacity store → KeepsTo (stands S.Timetable.map S.Timetable.capacity result) (new_ledger (S.Timetable.map store)) }
-        ensures capacity { (stands S.Timetable.map S.Timetable.capacity result).standing.capacity ≡ S.Timetable.capacity store }
-        ensures slots { (stands S.Timetable.map S.Timetable.capacity result).slots ≡ length slots.old }
+        ensures keeps { length (S.meaning store).map ≤ (S.meaning store).capacity → KeepsTo (stands S.meaning result) (new_ledger (S.meaning store).map) }
+        ensures capacity { (stands S.meaning result).standing.capacity ≡ (S.meaning store).capacity }
+        ensures slots { (stands S.meaning result).slots ≡ length slots.old }
     {
         Installation {
             controller: Controller::new(store),
@@ -33,7 +33,7 @@ impl<'a, S: Store> Installation<'a, S> {
 
     // Does one call, whichever it is.
     pub fn call(&mut self, call: &Call<'_>) -> Answer
-        ensures obeys { Obeys (stands S.Timetable.map S.Timetable.capacity self.old) (stands S.Timetable.map S.Timetable.capacity self.new) (asked call.now) result }
+        ensures obeys { Obeys (stands S.meaning self.old) (stands S.meaning self.new) (asked call.now) result }
         ensures unchanged { is_accepted result ≡ false → self.new ≡ self.old }
     {
         match call {

@@ -8,7 +8,7 @@ use timetable::{Store, Timetable};
 // Does the calls of a plan to a new controller and board. It is handed back where the store is not empty,
 // or there are not as many places for answers as calls.
 pub fn run<'a, S: Store>(mut plan: Plan<'a, S>) -> Result<Ran<'a, S>, Plan<'a, S>>
-    ensures { RunOf S.Timetable.map S.Timetable.capacity plan.entry result }
+    ensures { RunOf S.meaning plan.entry result }
 {
     if plan.store.count() != 0 || plan.answers.len() != plan.calls.len() {
         return Err(plan);
@@ -37,7 +37,7 @@ pub fn run_both<'a, 'b, S: Store, T: Store>(
     Result<Ran<'a, S>, Plan<'a, S>>,
     Result<Ran<'b, T>, Plan<'b, T>>,
 )
-    ensures { BothRuns S.Timetable.map S.Timetable.capacity T.Timetable.map T.Timetable.capacity left.entry right.entry result.0 result.1 }
+    ensures { BothRuns S.meaning T.meaning left.entry right.entry result.0 result.1 }
 {
     (run(left), run(right))
 }

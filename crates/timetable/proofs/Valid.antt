@@ -2,12 +2,13 @@
 use Rattle.std.proofs.Common.{◌≡◌, ℕ, Bool, true, false, cond, List, [], ◌∷◌, Some, Option, refl, ap, ◌∙◌, subst, arith}
 use Rattle.std.proofs.lemmas.Bool.{and_parts, and_from, cond_both}
 use Rattle.maps.specs.Orders.{Lawful, same}
+use Rattle.ordered.specs.Tables.{Put, Removed}
 use Rattle.schedule.specs.declared.key.Key.{Key}
 use Rattle.schedule.specs.declared.record.Record.{Record}
 use Rattle.schedule.specs.Keys.{key_before}
 use Rattle.schedule.specs.Records.{key_of, is_schedule, every_schedule}
 use Rattle.schedule.specs.Orders.{key_irreflexive, key_transitive, key_total}
-use Rattle.timetable.specs.Timetables.{schedule_of, with_schedule, without_key, Puts, Removes}
+use Rattle.timetable.specs.Timetables.{schedule_of, with_schedule, without_key}
 
 -- the order of keys is a total order
 pub key_lawful : Lawful key_before
@@ -43,16 +44,17 @@ valid_without (y ∷ ys) k v =
     (λ _. and_from (is_schedule y) _ parts.0 (valid_without ys k parts.1))
     (λ _. cond_both (key_before k (key_of y)) _ _ (λ (rs : List Record). every_schedule rs ≡ true) (λ _. v) (λ _. parts.1))
 
-pub puts_valid : (m n : List Record) (c : ℕ) (x : Record) (r : Bool) → Puts m n c x r → every_schedule m ≡ true → is_schedule x ≡ true → every_schedule n ≡ true
-puts_valid m n c x r h v w = ap every_schedule h.gives ∙ either r
+-- so does what a table does with a schedule that is put, or a key that is removed
+pub put_valid : (m n : List Record) (c : ℕ) (x : Record) (r : Bool) → Put key_before key_of m n c x r → every_schedule m ≡ true → is_schedule x ≡ true → every_schedule n ≡ true
+put_valid m n c x r h v w = ap every_schedule h.gives ∙ either r
   where
     either : (b : Bool) → every_schedule (cond b (with_schedule m x) m) ≡ true
     either true = valid_with m x v w
     either false = v
 
-pub removes_valid : (m n : List Record) (k : Key) (r : Bool) → Removes m n k r → every_schedule m ≡ true → every_schedule n ≡ true
-removes_valid m n k r h v = ap every_schedule h.gives ∙ valid_without m k v
+pub removed_valid : (m n : List Record) (k : Key) (r : Bool) → Removed key_before key_of m n k r → every_schedule m ≡ true → every_schedule n ≡ true
+removed_valid m n k r h v = ap every_schedule h.gives ∙ valid_without m k v
 
 -- an equal schedule is put alike
-pub puts_equal : (m n : List Record) (c : ℕ) (x y : Record) (r : Bool) → x ≡ y → Puts m n c x r → Puts m n c y r
-puts_equal m n c x y r e h = subst (λ (z : Record). Puts m n c z r) e h
+pub put_equal : (m n : List Record) (c : ℕ) (x y : Record) (r : Bool) → x ≡ y → Put key_before key_of m n c x r → Put key_before key_of m n c y r
+put_equal m n c x y r e h = subst (λ (z : Record). Put key_before key_of m n c z r) e h

@@ -1,5 +1,5 @@
 -- A timetable: a finite map from keys to schedules, each under its own key, as the list of their records in the order of the keys.
-use Rattle.std.specs.Prelude.{◌≡◌, ℕ, Bool, true, List, Option}
+use Rattle.std.specs.Prelude.{◌≡◌, ℕ, ◌≤◌, Bool, true, List, length, Option, ◌==◌}
 use Rattle.maps.specs.Maps.{ascending, lookup, including, excluding, ceiling}
 use Rattle.ordered.specs.Tables.{Put, Removed}
 use Rattle.schedule.specs.declared.key.Key.{Key}
@@ -28,10 +28,25 @@ pub record IsMap (m : List Record) : Type 0 where
   pub rising : ascending key_before key_of m ≡ true
   pub schedules : every_schedule m ≡ true
 
+-- what a timetable means: its map, and beside it how many keys the map can have
+pub record Meaning : Type 0 where
+  pub map : List Record
+  pub capacity : ℕ
+
+-- the map has no more keys than the capacity
+abbrev pub IsWithinCapacity : Meaning → Type 0
+IsWithinCapacity t = length t.map ≤ t.capacity
+
+-- there are as many keys as there can be
+abbrev pub is_full : Meaning → Bool
+is_full t = length t.map == t.capacity
+
 -- a schedule is put: it takes the place of its key's, or is added below the capacity, or is refused for want of room
-abbrev pub Puts : List Record → List Record → ℕ → Record → Bool → Type 0
-Puts before after capacity schedule done = Put key_before key_of before after capacity schedule done
+pub record PutsSchedule (before after : Meaning) (schedule : Record) (done : Bool) : Type 0 where
+  pub map : Put key_before key_of before.map after.map before.capacity schedule done
+  pub capacity : after.capacity ≡ before.capacity
 
 -- a key is removed, or was not there
-abbrev pub Removes : List Record → List Record → Key → Bool → Type 0
-Removes before after key done = Removed key_before key_of before after key done
+pub record RemovesKey (before after : Meaning) (key : Key) (done : Bool) : Type 0 where
+  pub map : Removed key_before key_of before.map after.map key done
+  pub capacity : after.capacity ≡ before.capacity

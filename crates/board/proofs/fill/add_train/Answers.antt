@@ -8,7 +8,7 @@ use Rattle.board.proofs.fill.add_train.Goals as goal
 use Rattle.board.proofs.fill.add_train.Goals.{In-Some}
 
 -- the schedule that was found is in force
-in_force : (g : _) (c : In-Some g) → InForce (g.T.Timetable.map c.args.timetable.now) c.args.first.uid c.args.shown.now.day c.in-Some.schedule.plain
+in_force : (g : _) (c : In-Some g) → InForce (g.T.Timetable.meaning c.args.timetable.now).map c.args.first.uid c.args.shown.now.day c.in-Some.schedule.plain
 in_force g c = rw c.in-Some.is at c.train-next.ensures.best c.requires.first
 
 pub add_calls-requires : goal.add_calls-requires
@@ -26,7 +26,7 @@ add_calls-requires g c =
 
 pub returns-in_default-stp : goal.returns-in_default-stp
 returns-in_default-stp g c =
-    let m = g.T.Timetable.map c.args.timetable.now in
+    let m = (g.T.Timetable.meaning c.args.timetable.now).map in
     let force = in_force g (goal.at.returns-in_default-stp g c).In-Some in
     record {
       trained = trained_calls m c.args.shown.now.station c.args.shown.now.day c.args.first.uid (items c.args.lines.now) c.record-plain.result.now _

@@ -13,9 +13,9 @@ use Rattle.overlay.proofs.questions.count_after.Goals.{then-sets+then-not-before
 pub loop-i-init : goal.loop-i-init
 loop-i-init g c =
     let a = c.count.ensures.value in
-    let e : length (g.S.Timetable.map c.count.new.self) ≡ length (g.S.Timetable.map c.args.store.now) = ap (λ s. length (g.S.Timetable.map s)) c.count.ensures.same in
-    let f : length (g.S.Timetable.map c.capacity.new.self) ≡ length (g.S.Timetable.map c.count.new.self) = ap (λ s. length (g.S.Timetable.map s)) c.capacity.ensures.same in
-    let b = c.capacity.ensures.fits in
+    let e : length (g.S.Timetable.meaning c.count.new.self).map ≡ length (g.S.Timetable.meaning c.args.store.now).map = ap (λ s. length (g.S.Timetable.meaning s).map) c.count.ensures.same in
+    let f : length (g.S.Timetable.meaning c.capacity.new.self).map ≡ length (g.S.Timetable.meaning c.count.new.self).map = ap (λ s. length (g.S.Timetable.meaning s).map) c.capacity.ensures.same in
+    let b = c.capacity.ensures.within in
     let d = c.capacity.ensures.bounded in
     let h = c.min-count.ensures in
     (omega arith, refl, omega arith)
@@ -25,9 +25,9 @@ overflow_add-count g c = let few = c.args.changes.now.few in let t = c.loop-i-te
 
 pub overflow_sub-count : goal.overflow_sub-count
 overflow_sub-count g c =
-    let m = g.S.Timetable.map c.loop-i.store in
+    let m = (g.S.Timetable.meaning c.loop-i.store).map in
     let there = some_there (done_all m (take c.loop-i.i c.args.changes.now.list.now)) c.key.result (sym (c.has_after-before.ensures.value ∙ ap (λ cs. is_some (schedule_of (done_all m cs) c.key.result)) c.first.ensures) ∙ c.if-before.true) in
-    let n : c.loop-i.count ≡ length (done_all m (take c.loop-i.i c.args.changes.now.list.now)) = c.loop-i.invariant.0 ∙ ap (λ s. length (done_all (g.S.Timetable.map s) (take c.loop-i.i c.args.changes.now.list.now))) (sym c.loop-i.invariant.1) in
+    let n : c.loop-i.count ≡ length (done_all m (take c.loop-i.i c.args.changes.now.list.now)) = c.loop-i.invariant.0 ∙ ap (λ s. length (done_all (g.S.Timetable.meaning s).map (take c.loop-i.i c.args.changes.now.list.now))) (sym c.loop-i.invariant.1) in
     more c.loop-i.count (λ z. there (sym n ∙ z))
   where
     more : (n : ℕ) → (n ≡ 0 → ⊥) → 1 ≤ n
@@ -39,12 +39,12 @@ loop-i-preserved g c =
     let i = c.loop-i.i in
     let n = c.loop-i.count in
     let r = c.has_after-before.result in
-    let m = g.S.Timetable.map c.capacity.new.self in
+    let m = (g.S.Timetable.meaning c.capacity.new.self).map in
     let is = g.met.S.Timetable.is_map c.capacity.new.self in
     let there : r ≡ is_some (schedule_of (done_all m (take i cs)) (changed_key (get_or cs i no_change))) =
     c.has_after-before.ensures.value
-    ∙ ap (λ cs. is_some (schedule_of (done_all (g.S.Timetable.map c.loop-i.store) cs) c.key.result)) c.first.ensures
-    ∙ ap (λ s. is_some (schedule_of (done_all (g.S.Timetable.map s) (take i cs)) c.key.result)) c.loop-i.invariant.1
+    ∙ ap (λ cs. is_some (schedule_of (done_all (g.S.Timetable.meaning c.loop-i.store).map cs) c.key.result)) c.first.ensures
+    ∙ ap (λ s. is_some (schedule_of (done_all (g.S.Timetable.meaning s).map (take i cs)) c.key.result)) c.loop-i.invariant.1
     ∙ ap (λ k. is_some (schedule_of (done_all m (take i cs)) k)) c.key.ensures in
     let b : c.sets.result ≡ is_some (leaves (get_or cs i no_change)) = c.sets.ensures in
     let e : c.if-sets.count ≡ cond (is_some (leaves (get_or cs i no_change))) (cond r n (n + 1)) (cond r (n - 1) n) =
@@ -71,7 +71,7 @@ returns g c =
     record {
       value =
           c.loop-i.invariant.0
-          ∙ ap (λ s. length (done_all (g.S.Timetable.map s) (take c.loop-i.i c.args.changes.now.list.now))) same
-          ∙ ap (λ cs. length (done_all (g.S.Timetable.map c.args.store.now) cs)) all;
+          ∙ ap (λ s. length (done_all (g.S.Timetable.meaning s).map (take c.loop-i.i c.args.changes.now.list.now))) same
+          ∙ ap (λ cs. length (done_all (g.S.Timetable.meaning c.args.store.now).map cs)) all;
       same = c.loop-i.invariant.1 ∙ same;
     }

@@ -1,5 +1,4 @@
 use Rattle.std.proofs.Common.{◌≡◌, is_some, Some, None, unwrap_or, sym, refl, ap, ◌∙◌}
-use Rattle.std.proofs.lemmas.Bool.{true≢false}
 use Rattle.timetable.specs.Timetables.{schedule_of}
 use Rattle.overlay.specs.Overlays.{done_all}
 use Rattle.overlay.proofs.Dones.{after_last, all_look}
@@ -11,7 +10,7 @@ schedule_left-requires g c = record { lawful = lawful_last c.args.key c.args.cha
 
 pub returns-in-Some-schedule_left : goal.returns-in-Some-schedule_left
 returns-in-Some-schedule_left g c =
-    let m = g.T.Timetable.map c.args.timetable.now in
+    let m = (g.T.Timetable.meaning c.args.timetable.now).map in
     let e : schedule_of (done_all m c.args.changes.now.list.now) c.args.key ≡ Some c.in-Some-schedule_left.schedule.plain =
     all_look m c.args.changes.now.list.now c.args.key (g.met.T.Timetable.is_map c.args.timetable.now) c.args.changes.now.lawful
     ∙ ap (λ o. after_last o (schedule_of m c.args.key)) (sym c.in-Some.ensures)
@@ -19,13 +18,13 @@ returns-in-Some-schedule_left g c =
     record {
       found = sym (ap is_some e);
       copied = sym (ap (λ o. unwrap_or o c.args.place.now.plain) e);
-      left = λ h. absurd (true≢false h);
+      left = tt;
       same = refl;
     }
 
 pub returns-in-None-schedule_left : goal.returns-in-None-schedule_left
 returns-in-None-schedule_left g c =
-    let m = g.T.Timetable.map c.args.timetable.now in
+    let m = (g.T.Timetable.meaning c.args.timetable.now).map in
     let e : schedule_of (done_all m c.args.changes.now.list.now) c.args.key ≡ None =
     all_look m c.args.changes.now.list.now c.args.key (g.met.T.Timetable.is_map c.args.timetable.now) c.args.changes.now.lawful
     ∙ ap (λ o. after_last o (schedule_of m c.args.key)) (sym c.in-Some.ensures)
@@ -33,13 +32,13 @@ returns-in-None-schedule_left g c =
     record {
       found = sym (ap is_some e);
       copied = sym (ap (λ o. unwrap_or o c.args.place.now.plain) e);
-      left = λ _. refl;
+      left = refl;
       same = refl;
     }
 
 pub returns-in-None : goal.returns-in-None
 returns-in-None g c =
-    let m = g.T.Timetable.map c.args.timetable.now in
+    let m = (g.T.Timetable.meaning c.args.timetable.now).map in
     let e : schedule_of (done_all m c.args.changes.now.list.now) c.args.key ≡ schedule_of m c.args.key =
     all_look m c.args.changes.now.list.now c.args.key (g.met.T.Timetable.is_map c.args.timetable.now) c.args.changes.now.lawful
     ∙ ap (λ o. after_last o (schedule_of m c.args.key)) (sym c.in-None.ensures) in

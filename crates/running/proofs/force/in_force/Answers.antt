@@ -8,7 +8,7 @@ use Rattle.running.proofs.force.in_force.Goals as goal
 
 pub returns-in_default-clause-value : goal.returns-in_default-clause-value
 returns-in_default-clause-value g c s d =
-    let m = g.T.Timetable.map c.args.timetable.now in
+    let m = (g.T.Timetable.meaning c.args.timetable.now).map in
     let is = g.met.T.Timetable.is_map c.args.timetable.now in
     let at = sym (c.in-Some.ensures.value ∙ ap (not_before m) c.first_of.ensures) in
     (begin m c.args.uid c.args.day).none refl s d
@@ -16,7 +16,7 @@ returns-in_default-clause-value g c s d =
 
 pub returns-in_default-2-clause-value : goal.returns-in_default-2-clause-value
 returns-in_default-2-clause-value g c s d =
-    let m = g.T.Timetable.map c.args.timetable.now in
+    let m = (g.T.Timetable.meaning c.args.timetable.now).map in
     let is = g.met.T.Timetable.is_map c.args.timetable.now in
     let at = sym (c.in_default.ensures.value ∙ ap (not_before m) c.first_of.ensures) in
     (begin m c.args.uid c.args.day).none refl s d (all_before m (first_of c.args.uid) is at _ (held_has m s d.there))

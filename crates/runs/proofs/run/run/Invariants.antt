@@ -6,7 +6,7 @@ use Rattle.runs.proofs.run.run.Given as goal
 abbrev pub invariant-loop-place : goal.invariant-loop-place
 invariant-loop-place g l =
     (length l.answers ≡ length l.calls)
-    × FirstCalls (g.S.Timetable.capacity l.fn.plan.store) (length l.fn.plan.slots.now) l.calls l.answers l.place
-    × KeepsTo (stands g.S.Timetable.map g.S.Timetable.capacity l.installation) (ledger_at l.calls l.answers l.place)
-    × ((stands g.S.Timetable.map g.S.Timetable.capacity l.installation).standing.capacity ≡ g.S.Timetable.capacity l.fn.plan.store)
-    × ((stands g.S.Timetable.map g.S.Timetable.capacity l.installation).slots ≡ length l.fn.plan.slots.now)
+    × FirstCalls (g.S.Timetable.meaning l.fn.plan.store).capacity (length l.fn.plan.slots.now) l.calls l.answers l.place
+    × KeepsTo (stands g.S.Timetable.meaning l.installation) (ledger_at l.calls l.answers l.place)
+    × ((stands g.S.Timetable.meaning l.installation).standing.capacity ≡ (g.S.Timetable.meaning l.fn.plan.store).capacity)
+    × ((stands g.S.Timetable.meaning l.installation).slots ≡ length l.fn.plan.slots.now)

@@ -7,7 +7,7 @@ returns g c = record {
   left = c.run.ensures;
   right = c.run-2.ensures;
   alike = both_ok c.run.result c.run-2.result _ _ _ _ _
-      (λ a b p q. same_boards (stands g.S.Timetable.map g.S.Timetable.capacity a.installation) (stands g.T.Timetable.map g.T.Timetable.capacity b.installation)
+      (λ a b p q. same_boards (stands g.S.Timetable.meaning a.installation) (stands g.T.Timetable.meaning b.installation)
       (entries c.args.left.calls.now a.answers.now) (entries c.args.right.calls.now b.answers.now) p.1.keeps q.1.keeps)
       c.run.ensures c.run-2.ensures;
 }

@@ -3,4 +3,7 @@ use Rattle.timetable.specs.Laws.{set_all}
 use Rattle.timetable.proofs.laws.put_all.Given as goal
 
 abbrev pub invariant-loop-plain : goal.invariant-loop-plain
-invariant-loop-plain g l = (g.S.Timetable.map l.store ≡ set_all (g.S.Timetable.map l.initial.store) (take l.plain-index l.records)) × (g.S.Timetable.capacity l.store ≡ g.S.Timetable.capacity l.initial.store)
+invariant-loop-plain g l = record {
+  map : (g.S.Timetable.meaning l.store).map ≡ set_all (g.S.Timetable.meaning l.initial.store).map (take l.plain-index l.records);
+  capacity : (g.S.Timetable.meaning l.store).capacity ≡ (g.S.Timetable.meaning l.initial.store).capacity;
+}

@@ -15,12 +15,12 @@ pub returns-clause-agrees : goal.returns-clause-agrees
 returns-clause-agrees g c rows a h =
     let done : is_ok c.abandon.result ≡ true = sym (no_row_ok c.abandon.result c.without_row.result c.without_row.ensures) ∙ ap is_ok c.in_ok-without_row.was in
     let fresh : seen c.abandon.new.self (pending_in c.clear.new.self) ≡ idle = ap (seen c.abandon.new.self) c.clear.ensures ∙ c.abandon.ensures.dropped done in
-    idle_agrees (g.S.Timetable.map c.args.self.now.overlay.store) (g.S.Timetable.capacity c.args.self.now.overlay.store) _ fresh a.is_map (a.fits.pending 0)
+    idle_agrees (g.S.Timetable.meaning c.args.self.now.overlay.store).map (g.S.Timetable.meaning c.args.self.now.overlay.store).capacity _ fresh a.is_map (a.fits.pending 0)
 
 pub returns-clause-obeys : goal.returns-clause-obeys
 returns-clause-obeys g c b =
-    let before = state_in g.S.Timetable.map g.S.Timetable.capacity c.args.self.now b in
-    let after : State = state (standing g.S.Timetable.map g.S.Timetable.capacity c.abandon.new.self (record { store = c.args.self.now.overlay.store; pending = c.clear.new.self }) c.args.self.now.reference) c.args.self.now.tally b in
+    let before = state_in g.S.Timetable.meaning c.args.self.now b in
+    let after : State = state (standing g.S.Timetable.meaning c.abandon.new.self (record { store = c.args.self.now.overlay.store; pending = c.clear.new.self }) c.args.self.now.reference) c.args.self.now.tally b in
     let told : fault_of {E = ExtractFault} (Ok (tt {0})) ≡ refusal_of Abandon before.standing before.slots = search rules in
     let done : is_ok c.abandon.result ≡ true = sym (no_row_ok c.abandon.result c.without_row.result c.without_row.ensures) ∙ ap is_ok c.in_ok-without_row.was in
     let fresh : seen c.abandon.new.self (pending_in c.clear.new.self) ≡ idle = ap (seen c.abandon.new.self) c.clear.ensures ∙ c.abandon.ensures.dropped done in

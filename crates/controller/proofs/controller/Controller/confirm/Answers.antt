@@ -13,8 +13,8 @@ use Rattle.controller.proofs.controller.Controller.confirm.Goals as goal
 
 pub returns-clause-obeys : goal.returns-clause-obeys
 returns-clause-obeys g c =
-    let before = state_in g.S.Timetable.map g.S.Timetable.capacity c.args.self.now c.args.board.now in
-    let after : State = state (standing g.S.Timetable.map g.S.Timetable.capacity c.new-self.result (record { store = c.follow.new.store; pending = c.settle.new.self.pending }) c.current-self.result) c.saturating_add-self.result c.follow.new.self in
+    let before = state_in g.S.Timetable.meaning c.args.self.now c.args.board.now in
+    let after : State = state (standing g.S.Timetable.meaning c.new-self.result (record { store = c.follow.new.store; pending = c.settle.new.self.pending }) c.current-self.result) c.saturating_add-self.result c.follow.new.self in
     let told : fault_of {E = ExtractFault} (Ok (tt {0})) ≡ refusal_of Confirm before.standing before.slots = search rules in
     let map : after.standing.map ≡ tried_all before.standing.capacity before.standing.map before.standing.extract.changes = search rules in
     let capacity : after.standing.capacity ≡ before.standing.capacity = search rules in

@@ -10,7 +10,7 @@ use Rattle.controller.proofs.controller.Controller.hear.Goals as goal
 
 pub returns-in_err-beside-clause-told : goal.returns-in_err-beside-clause-told
 returns-in_err-beside-clause-told g c =
-    let s = standing_in g.S.Timetable.map g.S.Timetable.capacity c.args.self.now in
+    let s = standing_in g.S.Timetable.meaning c.args.self.now in
     let row = c.in_ok-row.row in
     let made = MatchResult-at_ok _ _ row (beside_ok c.check.result _ row (sym c.in_ok-row.ensures)) c.check.ensures.made in
     let refused = beside_err c.take.result c.letters-letters.result c.in_err-beside.field-0.0 (sym c.beside-2.ensures ∙ c.in_err-beside.was) in
@@ -26,7 +26,7 @@ returns-in_err-beside-clause-unchanged g c =
 
 pub returns-clause-told : goal.returns-clause-told
 returns-clause-told g c =
-    let s = standing_in g.S.Timetable.map g.S.Timetable.capacity c.args.self.now in
+    let s = standing_in g.S.Timetable.meaning c.args.self.now in
     let row = c.in_ok-row.row in
     let made = MatchResult-at_ok _ _ row (beside_ok c.check.result _ row (sym c.in_ok-row.ensures)) c.check.ensures.made in
     heard_ok is_misplaced s c.args.bytes.now row.bytes row.identity _ c.take.result made.0 made.1 (c.take.ensures.told c.args.self.now.reference c.args.self.now.room) _ (beside_ok c.take.result c.letters-letters.result _ (sym c.beside-2.ensures ∙ c.in_ok-beside.was))

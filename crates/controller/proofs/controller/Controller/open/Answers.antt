@@ -15,7 +15,7 @@ use Rattle.controller.proofs.controller.Controller.open.Goals as goal
 
 pub returns-clause-told : goal.returns-clause-told
 returns-clause-told g c =
-    let s = standing_in g.S.Timetable.map g.S.Timetable.capacity c.args.self.now in
+    let s = standing_in g.S.Timetable.meaning c.args.self.now in
     let row = c.args.row.now in
     let p = progress_in c.hear_opening.new.self in
     let r = c.hear_opening.result in
@@ -25,7 +25,7 @@ returns-clause-told g c =
 
 pub returns-clause-taken : goal.returns-clause-taken
 returns-clause-taken g c =
-    let s = standing_in g.S.Timetable.map g.S.Timetable.capacity c.args.self.now in
+    let s = standing_in g.S.Timetable.meaning c.args.self.now in
     let row = c.args.row.now in
     let p = progress_in c.hear_opening.new.self in
     let r = c.hear_opening.result in
@@ -35,32 +35,32 @@ returns-clause-taken g c =
 
 pub returns-clause-agrees : goal.returns-clause-agrees
 returns-clause-agrees g c =
-    let s = standing_in g.S.Timetable.map g.S.Timetable.capacity c.args.self.now in
+    let s = standing_in g.S.Timetable.meaning c.args.self.now in
     let row = c.args.row.now in
     let p = progress_in c.hear_opening.new.self in
     let r = c.hear_opening.result in
     let out = c.numbered.result in
     let n : out ≡ raised (in_extract (c.args.self.now.extract.taken + 1)) r = c.numbered.ensures ∙ ap (λ k. raised (in_extract (k + 1)) r) c.rows_taken-number.ensures in
     let store = ap (λ o. o.store) c.hear_opening.ensures.store in
-    λ rows a ok. subst (λ (v : g.row.S.Denot). Agrees (g.S.Timetable.map v) (g.S.Timetable.capacity v) (rows ++ row ∷ []) p) (sym store) (agrees_more is_no_opening opening_places s row p rows c.args.self.now.overlay.pending.lawful (told_ok p _ r c.hear_opening.ensures.told (was_ok s row p r out n ok)) a)
+    λ rows a ok. subst (λ (v : g.row.S.Denot). Agrees (g.S.Timetable.meaning v).map (g.S.Timetable.meaning v).capacity (rows ++ row ∷ []) p) (sym store) (agrees_more is_no_opening opening_places s row p rows c.args.self.now.overlay.pending.lawful (told_ok p _ r c.hear_opening.ensures.told (was_ok s row p r out n ok)) a)
 
 pub returns-clause-obeys : goal.returns-clause-obeys
 returns-clause-obeys g c b =
-    let s = standing_in g.S.Timetable.map g.S.Timetable.capacity c.args.self.now in
+    let s = standing_in g.S.Timetable.meaning c.args.self.now in
     let row = c.args.row.now in
     let p = progress_in c.hear_opening.new.self in
     let r = c.hear_opening.result in
     let out = c.numbered.result in
     let n : out ≡ raised (in_extract (c.args.self.now.extract.taken + 1)) r = c.numbered.ensures ∙ ap (λ k. raised (in_extract (k + 1)) r) c.rows_taken-number.ensures in
-    let before = state_in g.S.Timetable.map g.S.Timetable.capacity c.args.self.now b in
-    let after = state_in g.S.Timetable.map g.S.Timetable.capacity c.hear_opening.new.self b in
+    let before = state_in g.S.Timetable.meaning c.args.self.now b in
+    let after = state_in g.S.Timetable.meaning c.hear_opening.new.self b in
     let store : c.hear_opening.new.self.overlay.store ≡ c.args.self.now.overlay.store = ap (λ o. o.store) c.hear_opening.ensures.store in
     obeys_done before after (Open row) out (returns-clause-told g c) (λ ℓ h. h)
     (λ ok ℓ k. (
       keeps_row before after ℓ k row
-          (record { map = ap g.S.Timetable.map store; reference = c.hear_opening.ensures.reference; tally = c.hear_opening.ensures.tally; shown = refl; lines = refl })
+          (record { map = ap (λ v. (g.S.Timetable.meaning v).map) store; reference = c.hear_opening.ensures.reference; tally = c.hear_opening.ensures.tally; shown = refl; lines = refl })
           (returns-clause-agrees g c ℓ.rows k.extract ok) c.hear_opening.new.self.overlay.pending.lawful,
       λ e. absurd (true≢false (sym e)),
     ))
-    (λ no. ap (λ v. state_in g.S.Timetable.map g.S.Timetable.capacity v b) (c.hear_opening.ensures.unchanged (sym (same_ok s row p r out n) ∙ no)))
-    (ap g.S.Timetable.capacity store) refl
+    (λ no. ap (λ v. state_in g.S.Timetable.meaning v b) (c.hear_opening.ensures.unchanged (sym (same_ok s row p r out n) ∙ no)))
+    (ap (λ v. (g.S.Timetable.meaning v).capacity) store) refl

@@ -12,8 +12,8 @@ use Rattle.controller.proofs.controller.Controller.turn.Goals as goal
 pub returns-clause-obeys : goal.returns-clause-obeys
 returns-clause-obeys g c =
     let self = c.args.self.now in
-    let judged : g.row.S.Denot → Standing = λ v. standing g.S.Timetable.map g.S.Timetable.capacity self.extract (record { store = v; pending = self.overlay.pending }) self.reference in
-    let before = state_in g.S.Timetable.map g.S.Timetable.capacity self c.args.board.now in
+    let judged : g.row.S.Denot → Standing = λ v. standing g.S.Timetable.meaning self.extract (record { store = v; pending = self.overlay.pending }) self.reference in
+    let before = state_in g.S.Timetable.meaning self c.args.board.now in
     let after : State = state (judged c.turn.new.store) self.tally c.turn.new.self in
     let out = c.without_row.result in
     let same = no_row_ok c.turn.result out c.without_row.ensures in
@@ -22,4 +22,4 @@ returns-clause-obeys g c =
     obeys_done before after (Turn c.args.station.now c.args.day) out told (λ ℓ h. h)
     (λ ok ℓ k. (keeps_shown before after ℓ k c.args.station.now c.args.day kept refl (c.turn.ensures.set (sym same ∙ ok)) (c.turn.ensures.board (sym same ∙ ok)), λ e. absurd (true≢false (sym e))))
     (λ no. ap (λ s. state s self.tally c.turn.new.self) kept ∙ ap (state before.standing self.tally) (c.turn.ensures.unchanged (sym same ∙ no)))
-    (ap g.S.Timetable.capacity c.turn.ensures.same) c.turn.ensures.slots
+    (ap (λ v. (g.S.Timetable.meaning v).capacity) c.turn.ensures.same) c.turn.ensures.slots

@@ -8,7 +8,7 @@ use Rattle.overlay.proofs.as_timetable.OverlayTimetable.not_before.Goals as goal
 
 pub returns : goal.returns
 returns g c =
-    let m = g.S.Timetable.map c.args.self.now.store in
+    let m = (g.S.Timetable.meaning c.args.self.now.store).map in
     let cs = pending_in c.args.self.now.pending in
     let is = g.met.S.Timetable.is_map c.args.self.now.store in
     let lawful = c.args.self.now.pending.lawful in

@@ -8,5 +8,5 @@ use Rattle.running.proofs.force.Walk.consider.Goals as goal
 
 pub returns-then-day-key-clause-best : goal.returns-then-day-key-clause-best
 returns-then-day-key-clause-best g c h e =
-    let late = subst (λ (k : Key). c.args.day < k.from) (sym (found_key (g.T.Timetable.map c.args.timetable.now) c.args.key h e)) c.if-day-key.true in
+    let late = subst (λ (k : Key). c.args.day < k.from) (sym (found_key (g.T.Timetable.meaning c.args.timetable.now).map c.args.key h e)) c.if-day-key.true in
     sym (cond-false (takes h c.args.day (held c.args.self.now.best)) (Some h) (held c.args.self.now.best) (begins_after h c.args.day (held c.args.self.now.best) late))

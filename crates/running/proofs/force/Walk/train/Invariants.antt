@@ -7,10 +7,10 @@ use Rattle.running.proofs.force.Walk.train.Given as goal
 
 abbrev pub invariant-loop-next : goal.invariant-loop-next
 invariant-loop-next g l =
-    (IsFirst (g.T.Timetable.map l.initial.timetable) l.first
-    → Walked (g.T.Timetable.map l.initial.timetable) l.first.uid l.day l.key (held l.self.best) × Has (g.T.Timetable.map l.initial.timetable) l.key)
+    (IsFirst (g.T.Timetable.meaning l.initial.timetable).map l.first
+    → Walked (g.T.Timetable.meaning l.initial.timetable).map l.first.uid l.day l.key (held l.self.best) × Has (g.T.Timetable.meaning l.initial.timetable).map l.key)
     × (l.key.uid ≡ l.first.uid)
     × (l.timetable ≡ l.initial.timetable)
 
 abbrev pub decreases-loop-next : goal.decreases-loop-next
-decreases-loop-next g l = turns (g.T.Timetable.map l.timetable) l.key
+decreases-loop-next g l = turns (g.T.Timetable.meaning l.timetable).map l.key

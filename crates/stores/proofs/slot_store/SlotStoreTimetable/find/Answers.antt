@@ -1,7 +1,7 @@
 use Rattle.std.proofs.Common.{is_some, unwrap_or, ap, ◌∙◌}
 use Rattle.timetable.proofs.Valid.{found_valid}
-use Rattle.stores.proofs.Whole.{same_kept}
-use Rattle.stores.proofs.as_store.KeptTimetable.find.Goals as goal
+use Rattle.stores.proofs.Whole.{same_store}
+use Rattle.stores.proofs.slot_store.SlotStoreTimetable.find.Goals as goal
 
 pub returns-in-Some-clause-found : goal.returns-in-Some-clause-found
 returns-in-Some-clause-found g c = c.set.ensures.told ∙ found_valid _ c.args.key c.in-Some.plain c.args.self.now.valid c.in-Some.ensures.value ∙ ap is_some c.in-Some.ensures.value
@@ -12,7 +12,7 @@ returns-in-Some-clause-copied g c =
     ∙ ap (λ o. unwrap_or o c.args.place.now.plain) c.in-Some.ensures.value
 
 pub returns-in-Some-clause-same : goal.returns-in-Some-clause-same
-returns-in-Some-clause-same g c = same_kept _ _ c.in-Some.ensures.same
+returns-in-Some-clause-same g c = same_store _ _ c.in-Some.ensures.same
 
 pub returns-in-None-clause-same : goal.returns-in-None-clause-same
-returns-in-None-clause-same g c = same_kept _ _ c.in-None.ensures.same
+returns-in-None-clause-same g c = same_store _ _ c.in-None.ensures.same
