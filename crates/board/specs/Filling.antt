@@ -6,7 +6,7 @@ use Rattle.ordered.specs.Tables.{RestKept}
 use Rattle.schedule.specs.declared.key.Key.{Key}
 use Rattle.schedule.specs.declared.record.Record.{Record}
 use Rattle.schedule.specs.Records.{visits}
-use Rattle.running.specs.Running.{IsFirst}
+use Rattle.running.specs.Walking.{IsFirst}
 use Rattle.board.specs.declared.line.Line.{Line}
 use Rattle.board.specs.Lines.{line_before, line_key, On, line_at, IsLine}
 

@@ -3,7 +3,7 @@ ghost use Rattle.std.specs.Prelude.{◌≡◌, ℕ, ◌+◌, ◌*◌, ◌<◌, �
 ghost use Rattle.ordered.specs.Tables.{items, room, RestKept};
 ghost use Rattle.schedule.specs.Records.{is_at, visits};
 ghost use Rattle.timetable.specs.Timetables.{not_before};
-ghost use Rattle.running.specs.Running.{first_of, IsFirst};
+ghost use Rattle.running.specs.Walking.{first_of, IsFirst};
 ghost use Rattle.board.specs.declared.line.Line.{Line};
 ghost use Rattle.board.specs.Lines.{no_call, call_at, line_at, BoardOf};
 ghost use Rattle.board.specs.Filling.{Added, Fresh, Trained, AllLines, Grown};

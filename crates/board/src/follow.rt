@@ -12,7 +12,7 @@ use ordered::mapped::Mapped;
 use timetable::{Store, Timetable};
 
 impl Board<'_> {
-    // Whether there are line slots enough for a store: twice as many as its capacity.
+    /// Whether there are line slots enough for a store: twice as many as its capacity.
     pub fn suits<S: Store>(&mut self, store: &mut S) -> Result<(), ColumnFault>
         ensures told { fault_of result ≡ uppermost (slot_lines (room self.old.lines.inner) (S.meaning store.old).capacity) }
         ensures enough { is_ok result ≡ true → 2 * length (S.meaning store.old).map ≤ room self.old.lines.inner }
@@ -25,7 +25,7 @@ impl Board<'_> {
         Ok(())
     }
 
-    // Sets the lines to those that the store's map gives for the board's station and day. Without a station there are none.
+    /// Sets the lines to those that the store's map gives for the board's station and day. Without a station there are none.
     pub fn follow<S: Store>(&mut self, store: &mut S) -> Result<(), ColumnFault>
         ensures told { fault_of result ≡ uppermost (slot_lines (room self.old.lines.inner) (S.meaning store.old).capacity) }
         ensures lines { is_ok result ≡ true → LinesFor (S.meaning store.old).map self.old.shown (items self.new.lines.inner) }

@@ -30,7 +30,7 @@ impl StationDay {
 }
 
 impl Board<'_> {
-    // A board with no station and no lines.
+    /// A board with no station and no lines.
     pub fn new<'b>(slots: &'b mut [Line]) -> Board<'b>
         ensures shown { result.shown ≡ None }
         ensures lines { items result.lines.inner ≡ [] }
@@ -40,7 +40,7 @@ impl Board<'_> {
         Board { lines, shown: None }
     }
 
-    // How many lines it shows.
+    /// How many lines it shows.
     pub fn len(&mut self) -> usize
         ensures value { result ≡ length (items self.old.lines.inner) }
         ensures same { self.new ≡ self.old }
@@ -48,7 +48,7 @@ impl Board<'_> {
         self.lines.len()
     }
 
-    // The line at a place counted from 0.
+    /// The line at a place counted from 0.
     pub fn tell(&mut self, place: usize) -> Option<Line>
         ensures value { result ≡ slice_get (items self.old.lines.inner) place }
         ensures line { MatchOption result (length (items self.old.lines.inner) ≤ place) (λ l. (place < length (items self.old.lines.inner)) × ((d : Line) → l ≡ slice_index_or (items self.old.lines.inner) place d)) }
@@ -57,7 +57,7 @@ impl Board<'_> {
         self.lines.nth(place)
     }
 
-    // Sets the station and day, and the lines to those that the store's map gives for them.
+    /// Sets the station and day, and the lines to those that the store's map gives for them.
     pub fn turn<S: Store>(
         &mut self,
         store: &mut S,

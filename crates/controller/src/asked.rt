@@ -9,7 +9,7 @@ ghost use Rattle.controller.specs.Keeping.{state, Obeys};
 use board::display::Board;
 use board::line::Line;
 
-// The line of a board at a place counted from 0.
+/// The line of a board at a place counted from 0.
 pub fn tell(board: &mut Board<'_>, place: usize) -> Option<Line>
     ensures value { result ≡ slice_get (items board.old.lines.inner) place }
     ensures same { board.new ≡ board.old }

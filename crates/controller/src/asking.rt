@@ -19,28 +19,28 @@ impl<S> Controller<S> {
         self.extract.stage()
     }
 
-    // How many rows of the open extract were taken, HD included.
+    /// How many rows of the open extract were taken, HD included.
     pub fn rows_taken(&self) -> u16
         ensures { result ≡ (progress_in self.now).taken }
     {
         self.extract.rows_taken()
     }
 
-    // How many transactions are pending.
+    /// How many transactions are pending.
     pub fn pending_count(&self) -> usize
         ensures { result ≡ length (progress_in self.now).changes }
     {
         self.overlay.pending.len()
     }
 
-    // The pending transaction at a place counted from 0.
+    /// The pending transaction at a place counted from 0.
     pub fn pending_at(&self, place: usize) -> Option<Change>
         ensures { MatchOption result (length (progress_in self.now).changes ≤ place) (λ t. (place < length (progress_in self.now).changes) × ((d : Change) → t ≡ slice_index_or (progress_in self.now).changes place d)) }
     {
         self.overlay.pending.as_slice().get(place).copied()
     }
 
-    // How many transactions were ever confirmed, up to 4,294,967,295.
+    /// How many transactions were ever confirmed, up to 4,294,967,295.
     pub fn tally(&self) -> u32
         ensures value { result ≡ self.now.tally }
         ensures obeys { (s : Standing) (b : Board) → Obeys (state s self.now.tally b) (state s self.now.tally b) ToTally (Total result) }

@@ -19,7 +19,7 @@ use overlay::overlay::Overlay;
 use timetable::Store;
 
 impl<S: Store> Controller<S> {
-    // A controller over a store: idle, nothing pending, and seven blanks for the reference in force.
+    /// A controller over a store: idle, nothing pending, and seven blanks for the reference in force.
     pub fn new(store: S) -> Controller<S>
         ensures idle { progress_in result ≡ idle }
         ensures store { result.overlay.store ≡ store }
@@ -36,7 +36,7 @@ impl<S: Store> Controller<S> {
         }
     }
 
-    // Opens an extract with its HD row.
+    /// Opens an extract with its HD row.
     pub fn open(&mut self, row: &[u8]) -> Result<(), ExtractFault>
         ensures told { fault_of result ≡ refusal_of (ToOpen row.now) (standing_in S.meaning self.old) 0 }
         ensures taken { is_ok result ≡ true → progress_in self.new ≡ after_row (progress_in self.old) row.now }
@@ -52,7 +52,7 @@ impl<S: Store> Controller<S> {
         numbered(self.hear_opening(row), number)
     }
 
-    // Takes a row of the open extract that is not its HD.
+    /// Takes a row of the open extract that is not its HD.
     pub fn row(&mut self, row: &[u8]) -> Result<(), ExtractFault>
         ensures told { fault_of result ≡ refusal_of (ToHear row.now) (standing_in S.meaning self.old) 0 }
         ensures taken { is_ok result ≡ true → progress_in self.new ≡ after_row (progress_in self.old) row.now }
@@ -68,7 +68,7 @@ impl<S: Store> Controller<S> {
         numbered(self.hear(row), number)
     }
 
-    // Drops the open extract and all that is pending.
+    /// Drops the open extract and all that is pending.
     pub fn abandon(&mut self) -> Result<(), ExtractFault>
         ensures told { fault_of result ≡ refusal_of ToAbandon (standing_in S.meaning self.old) 0 }
         ensures dropped { is_ok result ≡ true → progress_in self.new ≡ idle }

@@ -31,7 +31,7 @@ impl<S: Store> Controller<S> {
         board.suits(&mut self.overlay.store)
     }
 
-    // Does what is pending to the store, and sets the lines of the board to those of the new map for its station and day.
+    /// Does what is pending to the store, and sets the lines of the board to those of the new map for its station and day.
     pub fn confirm(&mut self, board: &mut Board<'_>) -> Result<(), ExtractFault>
         ensures told { fault_of result ≡ refusal_of ToConfirm (standing_in S.meaning self.old) (room board.old.lines.inner) }
         ensures map { is_ok result ≡ true → (S.meaning self.new.overlay.store).map ≡ tried_all (S.meaning self.old.overlay.store).capacity (S.meaning self.old.overlay.store).map (progress_in self.old).changes }

@@ -15,7 +15,7 @@ use board::display::Board;
 use timetable::Store;
 
 impl<S: Store> Controller<S> {
-    // Turns a board to a station and day, from the store's map: what is pending does not show.
+    /// Turns a board to a station and day, from the store's map: what is pending does not show.
     pub fn turn(
         &mut self,
         board: &mut Board<'_>,

@@ -9,7 +9,7 @@ use schedule::schedule::Schedule;
 use schedule::transaction::{Change, Transaction};
 
 impl Pending {
-    // Nothing is pending.
+    /// Nothing is pending.
     pub fn new() -> Pending
         ensures { pending_in result ≡ [] }
     {
@@ -41,7 +41,7 @@ impl Pending {
         self.as_slice().len()
     }
 
-    // A transaction joins after the others, unless 32 are pending.
+    /// A transaction joins after the others, unless 32 are pending.
     pub fn join(&mut self, transaction: Transaction) -> Result<(), Full>
         ensures done { is_ok result ≡ nat_lt (length (pending_in self.old)) 32 }
         ensures joined { is_ok result ≡ true → pending_in self.new ≡ pending_in self.old ++ plain_of transaction ∷ [] }
@@ -56,7 +56,7 @@ impl Pending {
         Ok(())
     }
 
-    // Drops all that is pending.
+    /// Drops all that is pending.
     pub fn clear(&mut self)
         ensures { pending_in self.new ≡ [] }
     {

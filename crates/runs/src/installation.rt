@@ -19,7 +19,7 @@ pub struct Installation<'a, S> {
 }
 
 impl<'a, S: Store> Installation<'a, S> {
-    // A new controller over a store, and a new board over line slots.
+    /// A new controller over a store, and a new board over line slots.
     pub fn new(store: S, slots: &'a mut [Line]) -> Installation<'a, S>
         ensures keeps { length (S.meaning store).map ≤ (S.meaning store).capacity → KeepsTo (stands S.meaning result) (new_ledger (S.meaning store).map) }
         ensures capacity { (stands S.meaning result).standing.capacity ≡ (S.meaning store).capacity }
@@ -31,7 +31,7 @@ impl<'a, S: Store> Installation<'a, S> {
         }
     }
 
-    // Does one call, whichever it is.
+    /// Does one call, whichever it is.
     pub fn call(&mut self, call: &Call<'_>) -> Answer
         ensures obeys { Obeys (stands S.meaning self.old) (stands S.meaning self.new) (asked call.now) result }
         ensures unchanged { is_accepted result ≡ false → self.new ≡ self.old }
