@@ -1,5 +1,5 @@
 -- What became of elements in any order after a search and a change at the place that it found.
-use Rattle.std.proofs.Common.{◌≡◌, ℕ, ◌+◌, ◌-◌, ◌<◌, Bool, true, false, cond, ◌||◌, nat_lt, List, [], ◌∷◌, ◌++◌, length, get_or, slice_get, take, set, is_some, None, sym, refl, ap, ◌∙◌, subst, arith}
+use Rattle.std.proofs.Common.{◌≡◌, ℕ, ◌+◌, ◌-◌, ◌<◌, Bool, true, false, cond, ◌||◌, nat_lt, List, [], ◌∷◌, ◌++◌, length, get_or, slice_get, take, set, is_some, is_ok, None, Ok, Err, Result, OnOk, OnErr, sym, ap, ◌∙◌, subst, arith}
 use Rattle.std.proofs.lemmas.List.{take_more, take_all}
 use Rattle.std.proofs.lemmas.Option.{slice_get-get_or}
 use Rattle.maps.specs.Orders.{Lawful}
@@ -33,8 +33,8 @@ module _ {E K : Type 0} (before : K → K → Bool) (key : E → K) (lawful : La
   absent xs x k of h = ap (lookup before key xs) (sym of) ∙ passed_lookup before key lawful xs k h
 
   -- an element after the others, where there is room
-  pub put_passed : (xs ys : List E) (x : E) (k : K) (n : ℕ) (r : Bool) → apart before key xs ≡ true → k ≡ key x → Passed before key xs k (length xs) → r ≡ nat_lt (length xs) n → (r ≡ true → ys ≡ xs ++ x ∷ []) → (r ≡ false → ys ≡ xs) → Put before key (gathered before key xs) (gathered before key ys) n x r
-  put_passed xs ys x k n r a of h d added kept = record {
+  pub put_passed : {T F : Type 0} (xs ys : List E) (x : E) (k : K) (n : ℕ) (r : Result T F) → apart before key xs ≡ true → k ≡ key x → Passed before key xs k (length xs) → is_ok r ≡ nat_lt (length xs) n → OnOk r (ys ≡ xs ++ x ∷ []) → OnErr r (ys ≡ xs) → Put before key (gathered before key xs) (gathered before key ys) n x (is_ok r)
+  put_passed {T} {F} xs ys x k n r a of h d added kept = record {
     done =
         d
         ∙ ap (λ m. nat_lt m n) (sym (length_gathered before key lawful xs a))
@@ -42,13 +42,13 @@ module _ {E K : Type 0} (before : K → K → Bool) (key : E → K) (lawful : La
     gives = either r added kept;
   }
     where
-      either : (b : Bool) → (b ≡ true → ys ≡ xs ++ x ∷ []) → (b ≡ false → ys ≡ xs) → gathered before key ys ≡ cond b (including before key (gathered before key xs) x) (gathered before key xs)
-      either true p q = ap (gathered before key) (p refl) ∙ gathered_push before key lawful xs x (absent xs x k of h)
-      either false p q = ap (gathered before key) (q refl)
+      either : (s : Result T F) → OnOk s (ys ≡ xs ++ x ∷ []) → OnErr s (ys ≡ xs) → gathered before key ys ≡ cond (is_ok s) (including before key (gathered before key xs) x) (gathered before key xs)
+      either (Ok t) p q = ap (gathered before key) p ∙ gathered_push before key lawful xs x (absent xs x k of h)
+      either (Err e) p q = ap (gathered before key) q
 
-  pub passed_apart : (xs ys : List E) (x : E) (k : K) (r : Bool) → apart before key xs ≡ true → k ≡ key x → Passed before key xs k (length xs) → (r ≡ true → ys ≡ xs ++ x ∷ []) → (r ≡ false → ys ≡ xs) → apart before key ys ≡ true
-  passed_apart xs ys x k true a of h added kept = ap (apart before key) (added refl) ∙ apart_push before key lawful xs x (absent xs x k of h) a
-  passed_apart xs ys x k false a of h added kept = ap (apart before key) (kept refl) ∙ a
+  pub passed_apart : {T F : Type 0} (xs ys : List E) (x : E) (k : K) (r : Result T F) → apart before key xs ≡ true → k ≡ key x → Passed before key xs k (length xs) → OnOk r (ys ≡ xs ++ x ∷ []) → OnErr r (ys ≡ xs) → apart before key ys ≡ true
+  passed_apart xs ys x k (Ok t) a of h added kept = ap (apart before key) added ∙ apart_push before key lawful xs x (absent xs x k of h) a
+  passed_apart xs ys x k (Err e) a of h added kept = ap (apart before key) kept ∙ a
 
   pub removed_passed : (xs ys : List E) (k : K) → Passed before key xs k (length xs) → ys ≡ xs → Removed before key (gathered before key xs) (gathered before key ys) k false
   removed_passed xs ys k h e =

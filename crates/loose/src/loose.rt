@@ -1,14 +1,15 @@
 // Elements in any order.
-ghost use Rattle.std.specs.Prelude.{◌≡◌, true};
+ghost use Rattle.std.specs.Prelude.{◌≡◌, true, IsTrue};
 ghost use Rattle.maps.specs.Maps.{apart};
 ghost use Rattle.ordered.specs.Tables.{items};
 
 use ordered::keys::Keyed;
 use ordered::slots::Slots;
 
-// A table of elements over lent slots, in no order, no two of one key.
+/// A table of elements over lent slots, in no order, no two of one key.
 #[derive(Drop)]
 pub struct Loose<'a, E: Keyed> {
+    /// The slots, the first of which hold the elements.
     pub inner: Slots<'a, E>,
-    ghost distinct: { apart E.Key.KeyOrder.before E.Keyed.keyed (items inner) ≡ true },
+    ghost distinct: { IsTrue (apart E.Key.before E.keyed (items inner)) },
 }

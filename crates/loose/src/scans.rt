@@ -8,14 +8,16 @@ use ordered::keys::{KeyOrder, Keyed};
 
 // Whether two keys are one.
 fn is_same<K: KeyOrder>(a: K, b: K) -> bool
-    ensures { result ≡ same K.KeyOrder.before a b }
+    ensures { result ≡ same K.before a b }
 {
     !a.is_before(&b) && !b.is_before(&a)
 }
 
-// The place of the first element of `key`.
+// The place of the first element of `key`, if there is one.
 pub(crate) fn scan<E: Keyed>(elements: &[E], key: E::Key) -> Option<usize>
-    ensures { MatchOption result (Passed E.Key.KeyOrder.before E.Keyed.keyed elements.now key (length elements.now)) (Found E.Key.KeyOrder.before E.Keyed.keyed elements.now key) }
+    ensures { MatchOption result
+        (Passed E.Key.before E.keyed elements.now key (length elements.now))
+        (Found E.Key.before E.keyed elements.now key) }
 {
     elements
         .iter()
@@ -24,7 +26,7 @@ pub(crate) fn scan<E: Keyed>(elements: &[E], key: E::Key) -> Option<usize>
 
 // The lower of `a` and `best`.
 fn lower_of<K: KeyOrder>(a: K, best: Option<K>) -> Option<K>
-    ensures { result ≡ lower K.KeyOrder.before a best }
+    ensures { result ≡ lower K.before a best }
 {
     match best {
         Some(b) if b.is_before(&a) => best,
@@ -32,9 +34,10 @@ fn lower_of<K: KeyOrder>(a: K, best: Option<K>) -> Option<K>
     }
 }
 
-// The lowest key that is not before `probe`.
+// The lowest key that is not before `probe`, if there is one.
 pub(crate) fn lowest<E: Keyed>(elements: &[E], probe: E::Key) -> Option<E::Key>
-    ensures { result ≡ ceiling E.Key.KeyOrder.before E.Keyed.keyed (gathered E.Key.KeyOrder.before E.Keyed.keyed elements.now) probe }
+    ensures { result
+        ≡ ceiling E.Key.before E.keyed (gathered E.Key.before E.keyed elements.now) probe }
 {
     elements.iter().fold(None, |best, element| {
         let there = element.key();

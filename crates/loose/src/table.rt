@@ -12,7 +12,7 @@ use ordered::slots::Slots;
 use ordered::table::Full;
 
 impl<E: Keyed> Loose<'_, E> {
-    // A table over `slots` that holds nothing, whatever they have in them.
+    /// A table over `slots` that holds nothing, whatever they have in them.
     pub fn new<'b>(slots: &'b mut [E]) -> Loose<'b, E>
         ensures empty { items result.inner ≡ [] }
         ensures room { room result.inner ≡ length slots.old }
@@ -25,16 +25,20 @@ impl<E: Keyed> Loose<'_, E> {
 
 // The map is the elements put into the order of their keys.
 impl<E: Keyed> Mapped<E> for Loose<'_, E> {
-    ghost map = { λ t. gathered E.Key.KeyOrder.before E.Keyed.keyed (items t.inner) };
+    ghost map = { λ t. gathered E.Key.before E.keyed (items t.inner) };
 
     ghost slots = { λ t. t.inner };
 
-    ghost rises = { λ t. map_rises E.Key.KeyOrder.before E.Keyed.keyed E.Key.KeyOrder.irreflexive E.Key.KeyOrder.transitive E.Key.KeyOrder.total (items t.inner) };
+    ghost rises = { λ t.
+        map_rises E.Key.before E.keyed E.Key.irreflexive E.Key.transitive E.Key.total
+        (items t.inner) };
 
-    ghost fits = { λ t. map_fits E.Key.KeyOrder.before E.Keyed.keyed E.Key.KeyOrder.irreflexive E.Key.KeyOrder.transitive E.Key.KeyOrder.total t.inner t.distinct };
+    ghost fits = { λ t.
+        map_fits E.Key.before E.keyed E.Key.irreflexive E.Key.transitive E.Key.total
+        t.inner t.distinct };
 
     fn len(&mut self) -> usize
-        ensures value { result ≡ length (gathered E.Key.KeyOrder.before E.Keyed.keyed (items self.old.inner)) }
+        ensures value { result ≡ length (gathered E.Key.before E.keyed (items self.old.inner)) }
         ensures held { result ≡ length (items self.old.inner) }
         ensures same { self.new ≡ self.old }
     {
@@ -46,8 +50,9 @@ impl<E: Keyed> Mapped<E> for Loose<'_, E> {
     }
 
     fn find(&mut self, key: E::Key) -> Option<E>
-        ensures value { result ≡ lookup E.Key.KeyOrder.before E.Keyed.keyed (gathered E.Key.KeyOrder.before E.Keyed.keyed (items self.old.inner)) key }
-        ensures held { result ≡ lookup E.Key.KeyOrder.before E.Keyed.keyed (items self.old.inner) key }
+        ensures value { result ≡ lookup E.Key.before E.keyed
+            (gathered E.Key.before E.keyed (items self.old.inner)) key }
+        ensures held { result ≡ lookup E.Key.before E.keyed (items self.old.inner) key }
         ensures same { self.new ≡ self.old }
     {
         match scan(self.inner.held(), key) {
@@ -67,7 +72,7 @@ impl<E: Keyed> Mapped<E> for Loose<'_, E> {
                 self.inner.set(place, entry);
                 Ok(())
             }
-            None => self.inner.push(entry),
+            None => self.inner.try_push(entry),
         }
     }
 
@@ -87,9 +92,10 @@ impl<E: Keyed> Mapped<E> for Loose<'_, E> {
 fn take_out<E: Copy>(pile: &mut Slots<'_, E>, place: usize)
     requires { place < pile.old.len }
     ensures len { pile.new.len ≡ pile.old.len - 1 }
-    ensures items { (d : E) → items pile.new ≡ slice_set (take (length (items pile.old) - 1) (items pile.old)) place (slice_index_or (items pile.old) (length (items pile.old) - 1) d) }
+    ensures items { (d : E) → let last = length (items pile.old) - 1 in
+        items pile.new
+        ≡ slice_set (take last (items pile.old)) place (slice_index_or (items pile.old) last d) }
     ensures rest { RestKept pile.old pile.new }
-    ensures lender { pile.new.slots.ghost_name ≡ pile.old.slots.ghost_name }
 {
     if let Some(last) = pile.pop() {
         pile.set(place, last);

@@ -1,5 +1,5 @@
 -- What became of the elements after a search and a change at the place that it found.
-use Rattle.std.proofs.Common.{◌≡◌, ℕ, ◌≤◌, Bool, true, false, cond, ◌||◌, nat_lt, List, [], ◌∷◌, length, set, slice_get, is_some, Some, Option, inl, inr, sym, ap, ◌∙◌, refl, subst, arith}
+use Rattle.std.proofs.Common.{◌≡◌, ℕ, ◌≤◌, Bool, true, false, cond, ◌||◌, nat_lt, List, [], ◌∷◌, length, set, slice_get, is_some, is_ok, Some, Ok, Err, Option, Result, OnOk, OnErr, inl, inr, sym, ap, ◌∙◌, subst, arith}
 use Rattle.std.specs.List.{insert, remove}
 use Rattle.std.specs.Option.{option_map}
 use Rattle.std.proofs.lemmas.Option.{slice_get-get_or, slice_get_cases}
@@ -37,8 +37,8 @@ module _ {E K : Type 0} {before : K → K → Bool} {key : E → K} (lawful : La
       }
 
   -- an element at its place, where there is room
-  pub put_miss : (xs ys : List E) (x : E) (k : K) (i n : ℕ) (r : Bool) → ascending before key xs ≡ true → k ≡ key x → Miss before key xs k i → r ≡ nat_lt (length xs) n → (r ≡ true → ys ≡ insert xs i x) → (r ≡ false → ys ≡ xs) → Put before key xs ys n x r
-  put_miss xs ys x k i n r up of h d added kept = record {
+  pub put_miss : {T F : Type 0} (xs ys : List E) (x : E) (k : K) (i n : ℕ) (r : Result T F) → ascending before key xs ≡ true → k ≡ key x → Miss before key xs k i → is_ok r ≡ nat_lt (length xs) n → OnOk r (ys ≡ insert xs i x) → OnErr r (ys ≡ xs) → Put before key xs ys n x (is_ok r)
+  put_miss {T} {F} xs ys x k i n r up of h d added kept = record {
     done = d ∙ sym (ap (λ o. is_some o || nat_lt (length xs) n) (miss_lookup before key lawful xs i (key x) up absent));
     gives = either r added kept;
   }
@@ -46,9 +46,9 @@ module _ {E K : Type 0} {before : K → K → Bool} {key : E → K} (lawful : La
       absent : Miss before key xs (key x) i
       absent = subst (λ (c : K). Miss before key xs c i) of h
 
-      either : (b : Bool) → (b ≡ true → ys ≡ insert xs i x) → (b ≡ false → ys ≡ xs) → ys ≡ cond b (including before key xs x) xs
-      either true p q = p refl ∙ sym (miss_including before key lawful xs i x absent)
-      either false p q = q refl
+      either : (s : Result T F) → OnOk s (ys ≡ insert xs i x) → OnErr s (ys ≡ xs) → ys ≡ cond (is_ok s) (including before key xs x) xs
+      either (Ok t) p q = p ∙ sym (miss_including before key lawful xs i x absent)
+      either (Err e) p q = q
 
   pub removed_hit : (xs ys : List E) (k : K) (i : ℕ) → Hit before key xs k i → ys ≡ remove xs i → Removed before key xs ys k true
   removed_hit xs ys k i h e = record { done = sym (hit_some xs i k h); gives = e ∙ sym (hit_excluding before key lawful xs i k h) }
@@ -73,8 +73,8 @@ module _ {E K : Type 0} {before : K → K → Bool} {key : E → K} (lawful : La
   pub hit_rises : (xs ys : List E) (x : E) (k : K) (i : ℕ) → k ≡ key x → Hit before key xs k i → ys ≡ set xs i x → ascending before key xs ≡ true → ascending before key ys ≡ true
   hit_rises xs ys x k i of h e up = put_rises xs ys 0 x true (put_hit xs ys x k i 0 of h e) up
 
-  pub miss_rises : (xs ys : List E) (x : E) (k : K) (i n : ℕ) (r : Bool) → ascending before key xs ≡ true → k ≡ key x → Miss before key xs k i → r ≡ nat_lt (length xs) n → (r ≡ true → ys ≡ insert xs i x) → (r ≡ false → ys ≡ xs) → ascending before key ys ≡ true
-  miss_rises xs ys x k i n r up of h d added kept = put_rises xs ys n x r (put_miss xs ys x k i n r up of h d added kept) up
+  pub miss_rises : {T F : Type 0} (xs ys : List E) (x : E) (k : K) (i n : ℕ) (r : Result T F) → ascending before key xs ≡ true → k ≡ key x → Miss before key xs k i → is_ok r ≡ nat_lt (length xs) n → OnOk r (ys ≡ insert xs i x) → OnErr r (ys ≡ xs) → ascending before key ys ≡ true
+  miss_rises xs ys x k i n r up of h d added kept = put_rises xs ys n x (is_ok r) (put_miss xs ys x k i n r up of h d added kept) up
 
   pub without_rises : (xs ys : List E) (k : K) (i : ℕ) → Hit before key xs k i → ys ≡ remove xs i → ascending before key xs ≡ true → ascending before key ys ≡ true
   without_rises xs ys k i h e up = removal_rises xs ys k true (removed_hit xs ys k i h e) up

@@ -7,6 +7,7 @@ use Rattle.maps.specs.Maps.{ascending}
 use Rattle.maps.specs.Places.{Ascends, Under, Over}
 use Rattle.maps.proofs.Sorted.{ascends_front}
 use Rattle.ordered.specs.declared.slots.Slots.{Slots}
+use Rattle.ordered.specs.Bounds.{IsLowerBound}
 use Rattle.ordered.specs.Tables.{items, room}
 
 module _ {E K : Type 0} (before : K → K → Bool) (key : E → K) (lawful : Lawful before)
@@ -33,10 +34,11 @@ module _ {E K : Type 0} (before : K → K → Bool) (key : E → K) (lawful : La
 
 -- What a search of the slots says of the elements in them.
 pub found_front : {E K : Type 0} (before : K → K → Bool) (key : E → K) {k : K} (s : Slots E) → ascending before key (items s) ≡ true → (r : ℕ) → r ≤ s.len
-    → (s.len ≤ room s → Ascends before key s.slots.now s.len → Under before key s.slots.now k r × Over before key s.slots.now k r s.len)
-    → Under before key (items s) k r × Over before key (items s) k r s.len
+    → (s.len ≤ room s → Ascends before key s.slots.now s.len → IsLowerBound before key s.slots.now s.len k r)
+    → IsLowerBound before key (items s) s.len k r
 found_front before key {k} s up r le h =
-    let found = h s.fits (ascends_front before key s.slots.now s.len s.fits up) in (
-      λ i d l. ap (λ x. before (key x) k) (get_or-take s.len s.slots.now i d (omega arith)) ∙ found.0 i d l,
-      λ i d l u. ap (λ x. before (key x) k) (get_or-take s.len s.slots.now i d u) ∙ found.1 i d l u,
-    )
+    let found = h s.fits (ascends_front before key s.slots.now s.len s.fits up) in
+    record {
+      under = λ i d l. ap (λ x. before (key x) k) (get_or-take s.len s.slots.now i d (omega arith)) ∙ found.under i d l;
+      over = λ i d l u. ap (λ x. before (key x) k) (get_or-take s.len s.slots.now i d u) ∙ found.over i d l u;
+    }

@@ -22,7 +22,8 @@ module _ {E K : Type 0} (before : K → K → Bool) (key : E → K) where
     pub done : r ≡ is_some (lookup before key xs k)
     pub gives : ys ≡ excluding before key xs k
 
--- the slots past the elements that are now held keep what they had, and none is lost
+-- the slots past the elements that are now held keep what they had, none is lost, and they are the same lender's
 pub record RestKept {E : Type 0} (s t : Slots E) : Type 0 where
   pub rest : drop t.len t.slots.now ≡ drop t.len s.slots.now
   pub slots : length t.slots.now ≡ length s.slots.now
+  pub lender : t.slots.ghost_name ≡ s.slots.ghost_name

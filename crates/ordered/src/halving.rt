@@ -1,14 +1,16 @@
 // The search by halves.
-ghost use Rattle.std.specs.Prelude.{◌≡◌, ℕ, ◌≤◌, Bool, true, false, length};
-ghost use Rattle.maps.specs.Places.{Ascends, Under, Over};
+ghost use Rattle.std.specs.Prelude.{◌≡◌, ◌≤◌, length};
+ghost use Rattle.maps.specs.Places.{Ascends};
+ghost use Rattle.ordered.specs.Bounds.{IsLowerBound};
 
 use crate::keys::{KeyOrder, Keyed};
 
-// The first of the places below `len` whose key is not before `key`, or `len`, where the keys rise.
+/// The first of the places below `len` whose key is not before `key`, or `len`, where the keys rise. Places count from 0.
 pub fn lower_bound<E: Keyed>(slots: &mut [E], len: usize, key: E::Key) -> usize
     ensures same { slots.new ≡ slots.old }
     ensures within { result ≤ len }
-    ensures found { len ≤ length slots.old → Ascends E.Key.KeyOrder.before E.Keyed.keyed slots.old len → Under E.Key.KeyOrder.before E.Keyed.keyed slots.old key result × Over E.Key.KeyOrder.before E.Keyed.keyed slots.old key result len }
+    ensures found { len ≤ length slots.old → Ascends E.Key.before E.keyed slots.old len
+        → IsLowerBound E.Key.before E.keyed slots.old len key result }
 {
     let mut low = 0;
     let mut high = len.min(slots.len());

@@ -1,8 +1,9 @@
 // The elements in lent slots, place by place.
-ghost use Rattle.std.specs.Prelude.{◌≡◌, ℕ, ◌+◌, ◌-◌, ◌<◌, ◌≤◌, Bool, true, false, [], ◌∷◌, ◌++◌, length, nat_lt, is_ok, MatchResult, slice_get, slice_set};
+ghost use Rattle.std.specs.Prelude.{◌≡◌, ◌+◌, ◌-◌, ◌<◌, ◌≤◌, [], ◌∷◌, ◌++◌, length, nat_lt, is_ok, IsTrue, OnOk, OnErr, MatchResult, slice_get, slice_set};
 ghost use Rattle.std.specs.List.{insert, remove};
 ghost use Rattle.maps.specs.Maps.{ascending};
-ghost use Rattle.maps.specs.Places.{Under, Over, Hit, Miss};
+ghost use Rattle.maps.specs.Places.{Hit, Miss};
+ghost use Rattle.ordered.specs.Bounds.{IsLowerBound};
 ghost use Rattle.ordered.specs.Tables.{items, room, RestKept};
 
 use crate::halving::lower_bound;
@@ -12,7 +13,7 @@ use crate::slots::Slots;
 use crate::table::Full;
 
 impl<E: Copy> Slots<'_, E> {
-    // The element at `place`, if one stands there.
+    /// The element at `place`, which counts from 0, if one stands there.
     pub fn get(&mut self, place: usize) -> Option<E>
         ensures value { result ≡ slice_get (items self.old) place }
         ensures same { self.new ≡ self.old }
@@ -24,38 +25,45 @@ impl<E: Copy> Slots<'_, E> {
         }
     }
 
-    // Puts `entry` in the place of the element at `place`, if one stands there.
+    /// Puts `entry` in the place of the element at `place`, if one stands there.
     pub fn set(&mut self, place: usize, entry: E)
         ensures items { items self.new ≡ slice_set (items self.old) place entry }
         ensures len { self.new.len ≡ self.old.len }
         ensures rest { RestKept self.old self.new }
-        ensures lender { self.new.slots.ghost_name ≡ self.old.slots.ghost_name }
     {
         if place < self.len {
             self.slots[place] = entry;
         }
     }
 
-    // Puts `entry` after the other elements, where there is room.
-    pub fn push(&mut self, entry: E) -> Result<(), Full>
-        ensures done { is_ok result ≡ nat_lt (length (items self.old)) (room self.old) }
-        ensures items { is_ok result ≡ true → items self.new ≡ items self.old ++ entry ∷ [] }
-        ensures unchanged { is_ok result ≡ false → self.new ≡ self.old }
+    /// Puts `entry` after the other elements, for which there has to be room.
+    pub fn push(&mut self, entry: E)
+        requires { length (items self.old) < room self.old }
+        ensures items { items self.new ≡ items self.old ++ entry ∷ [] }
+        ensures len { self.new.len ≡ self.old.len + 1 }
         ensures rest { RestKept self.old self.new }
-        ensures longer { self.old.len ≤ self.new.len }
-        ensures lender { self.new.slots.ghost_name ≡ self.old.slots.ghost_name }
     {
         let n = self.len;
-        if n < self.slots.len() {
-            self.slots[n] = entry;
-            self.len = n + 1;
-            Ok(())
-        } else {
-            Err(Full)
-        }
+        self.slots[n] = entry;
+        self.len = n + 1;
     }
 
-    // Takes the last element off, if there is one.
+    /// Puts `entry` after the other elements. It is refused where there is no room.
+    pub fn try_push(&mut self, entry: E) -> Result<(), Full>
+        ensures done { is_ok result ≡ nat_lt (length (items self.old)) (room self.old) }
+        ensures items { OnOk result (items self.new ≡ items self.old ++ entry ∷ []) }
+        ensures unchanged { OnErr result (self.new ≡ self.old) }
+        ensures rest { RestKept self.old self.new }
+        ensures longer { self.old.len ≤ self.new.len }
+    {
+        if self.len >= self.slots.len() {
+            return Err(Full);
+        }
+        self.push(entry);
+        Ok(())
+    }
+
+    /// Takes the last element off, if there is one.
     pub fn pop(&mut self) -> Option<E>
         ensures value { result ≡ slice_get (items self.old) (self.old.len - 1) }
         ensures len { self.new.len ≡ self.old.len - 1 }
@@ -72,10 +80,9 @@ impl<E: Copy> Slots<'_, E> {
     pub(crate) fn insert(&mut self, place: usize, entry: E) -> Result<(), Full>
         requires { place ≤ self.old.len }
         ensures done { is_ok result ≡ nat_lt (length (items self.old)) (room self.old) }
-        ensures items { is_ok result ≡ true → items self.new ≡ insert (items self.old) place entry }
-        ensures unchanged { is_ok result ≡ false → self.new ≡ self.old }
+        ensures items { OnOk result (items self.new ≡ insert (items self.old) place entry) }
+        ensures unchanged { OnErr result (self.new ≡ self.old) }
         ensures rest { RestKept self.old self.new }
-        ensures lender { self.new.slots.ghost_name ≡ self.old.slots.ghost_name }
     {
         let n = self.len;
         if n == self.slots.len() {
@@ -92,7 +99,6 @@ impl<E: Copy> Slots<'_, E> {
         ensures len { self.new.len ≡ self.old.len - 1 }
         ensures items { items self.new ≡ remove (items self.old) place }
         ensures rest { RestKept self.old self.new }
-        ensures lender { self.new.slots.ghost_name ≡ self.old.slots.ghost_name }
     {
         let n = self.len;
         remove_at(self.slots, n, place);
@@ -105,7 +111,8 @@ impl<E: Keyed> Slots<'_, E> {
     pub(crate) fn seek(&mut self, key: E::Key) -> usize
         ensures same { self.new ≡ self.old }
         ensures within { result ≤ self.old.len }
-        ensures found { ascending E.Key.KeyOrder.before E.Keyed.keyed (items self.old) ≡ true → Under E.Key.KeyOrder.before E.Keyed.keyed (items self.old) key result × Over E.Key.KeyOrder.before E.Keyed.keyed (items self.old) key result self.old.len }
+        ensures found { IsTrue (ascending E.Key.before E.keyed (items self.old))
+            → IsLowerBound E.Key.before E.keyed (items self.old) self.old.len key result }
     {
         let n = self.len;
         lower_bound(self.slots, n, key)
@@ -115,7 +122,9 @@ impl<E: Keyed> Slots<'_, E> {
     pub(crate) fn search(&mut self, key: E::Key) -> Result<usize, usize>
         ensures same { self.new ≡ self.old }
         ensures within { MatchResult result (λ i. i < self.old.len) (λ i. i ≤ self.old.len) }
-        ensures place { ascending E.Key.KeyOrder.before E.Keyed.keyed (items self.old) ≡ true → MatchResult result (Hit E.Key.KeyOrder.before E.Keyed.keyed (items self.old) key) (Miss E.Key.KeyOrder.before E.Keyed.keyed (items self.old) key) }
+        ensures place { IsTrue (ascending E.Key.before E.keyed (items self.old))
+            → MatchResult result (Hit E.Key.before E.keyed (items self.old) key)
+            (Miss E.Key.before E.keyed (items self.old) key) }
     {
         let i = self.seek(key);
         match self.get(i) {

@@ -1,14 +1,15 @@
 // Elements in the order of their keys.
-ghost use Rattle.std.specs.Prelude.{◌≡◌, true};
+ghost use Rattle.std.specs.Prelude.{◌≡◌, true, IsTrue};
 ghost use Rattle.maps.specs.Maps.{ascending};
 ghost use Rattle.ordered.specs.Tables.{items};
 
 use crate::keys::Keyed;
 use crate::slots::Slots;
 
-// A table of elements over lent slots, which stand in the order of their keys.
+/// A table of elements over lent slots, which stand in the order of their keys.
 #[derive(Drop)]
 pub struct Ordered<'a, E: Keyed> {
+    /// The slots, the first of which hold the elements.
     pub inner: Slots<'a, E>,
-    ghost rising: { ascending E.Key.KeyOrder.before E.Keyed.keyed (items inner) ≡ true },
+    ghost rising: { IsTrue (ascending E.Key.before E.keyed (items inner)) },
 }

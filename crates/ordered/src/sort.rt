@@ -1,5 +1,5 @@
 // Elements put into the order of their keys.
-ghost use Rattle.std.specs.Prelude.{◌≡◌, ◌≤◌, true, length, take, drop};
+ghost use Rattle.std.specs.Prelude.{◌≡◌, ◌≤◌, length, take, drop, IsTrue};
 ghost use Rattle.std.specs.Ordering.{is_lt};
 ghost use Rattle.maps.specs.Maps.{apart, gathered};
 ghost use Rattle.ordered.specs.Tables.{items, RestKept};
@@ -10,7 +10,7 @@ use std::cmp::Ordering;
 
 // How the keys of two elements stand.
 fn compare<E: Keyed>(here: &E, there: &E) -> Ordering
-    ensures { is_lt result ≡ E.Key.KeyOrder.before (E.Keyed.keyed here.now) (E.Keyed.keyed there.now) }
+    ensures { is_lt result ≡ E.Key.before (E.keyed here.now) (E.keyed there.now) }
 {
     if here.key().is_before(&there.key()) {
         Ordering::Less
@@ -22,7 +22,8 @@ fn compare<E: Keyed>(here: &E, there: &E) -> Ordering
 // Orders the first elements, so many as are counted.
 fn sort_first<E: Keyed>(slots: &mut [E], len: usize)
     requires { len ≤ length slots.old }
-    ensures items { apart E.Key.KeyOrder.before E.Keyed.keyed (take len slots.old) ≡ true → take len slots.new ≡ gathered E.Key.KeyOrder.before E.Keyed.keyed (take len slots.old) }
+    ensures items { IsTrue (apart E.Key.before E.keyed (take len slots.old))
+        → take len slots.new ≡ gathered E.Key.before E.keyed (take len slots.old) }
     ensures rest { drop len slots.new ≡ drop len slots.old }
     ensures long { length slots.new ≡ length slots.old }
 {
@@ -30,12 +31,12 @@ fn sort_first<E: Keyed>(slots: &mut [E], len: usize)
 }
 
 impl<E: Keyed> Slots<'_, E> {
-    // Orders the elements that are held, no two of which have one key: they then stand as the map that they are.
+    /// Orders the elements that are held, no two of which have one key: they then stand as the map that they are.
     pub fn sort(&mut self)
-        ensures items { apart E.Key.KeyOrder.before E.Keyed.keyed (items self.old) ≡ true → items self.new ≡ gathered E.Key.KeyOrder.before E.Keyed.keyed (items self.old) }
+        ensures items { IsTrue (apart E.Key.before E.keyed (items self.old))
+            → items self.new ≡ gathered E.Key.before E.keyed (items self.old) }
         ensures len { self.new.len ≡ self.old.len }
         ensures rest { RestKept self.old self.new }
-        ensures lender { self.new.slots.ghost_name ≡ self.old.slots.ghost_name }
     {
         let n = self.len;
         sort_first(self.slots, n);

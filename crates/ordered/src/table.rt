@@ -8,12 +8,12 @@ use crate::mapped::Mapped;
 use crate::ordered::Ordered;
 use crate::slots::Slots;
 
-// There is no room for one element more.
+/// There is no room for one element more.
 #[derive(Clone, Copy, Debug, PartialEq, Eq)]
 pub struct Full;
 
 impl<E: Keyed> Ordered<'_, E> {
-    // A table over `slots` that holds nothing, whatever they have in them.
+    /// A table over `slots` that holds nothing, whatever they have in them.
     pub fn new<'b>(slots: &'b mut [E]) -> Ordered<'b, E>
         ensures empty { items result.inner ≡ [] }
         ensures room { room result.inner ≡ length slots.old }
@@ -23,7 +23,7 @@ impl<E: Keyed> Ordered<'_, E> {
         }
     }
 
-    // The element at a place that counts from 0, in the order of the keys.
+    /// The element at a place that counts from 0, in the order of the keys.
     pub fn nth(&mut self, n: usize) -> Option<E>
         ensures value { result ≡ slice_get (items self.old.inner) n }
         ensures same { self.new ≡ self.old }

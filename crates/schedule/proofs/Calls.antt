@@ -43,7 +43,7 @@ few_push cs c h few =
         (cases_Bool (is_at d.tiploc c))
 
 module _ (r : Record) (l : Location) (valid : is_schedule r ≡ true) (runs : is_cancellation r.key.stp ≡ false) (long : length r.calls ≡ 48) (room : r.count < 48) (few : visits l.tiploc (kept_calls r) < 2) where
-  pub call_valid : is_schedule (record { key = r.key; to = r.to; days = r.days; train = r.train; operator = r.operator; destination = r.destination; calls = set r.calls r.count l; count = r.count + 1 }) ≡ true
+  pub call_valid : is_schedule (record r { calls = set r.calls r.count l; count = r.count + 1 }) ≡ true
   call_valid =
       let a = and_parts (in_range r) _ valid in
       let b = and_parts (leb r.count 48) _ a.1 in

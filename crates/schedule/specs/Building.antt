@@ -1,5 +1,5 @@
 -- A schedule as it is read, row by row.
-use Rattle.std.specs.Prelude.{◌≡◌, ℕ, ◌+◌, Bool, cond, not, ◌&&◌, List, [], ◌∷◌, nat_le, slice_set}
+use Rattle.std.specs.Prelude.{◌≡◌, ℕ, ◌+◌, Bool, if◌then◌else◌, not, ◌&&◌, List, [], ◌∷◌, nat_le, slice_set}
 use Rattle.cif.specs.declared.content.Location.{Location}
 use Rattle.cif.specs.declared.refusal.Refusal.TheVariants.{TooManyCalls, TooManyVisits}
 use Rattle.cif.specs.Refusals.{TableLine, line}
@@ -15,28 +15,17 @@ use Rattle.schedule.specs.Records.{kept_calls, visits, no_time, is_cancellation,
 -- a schedule begins without calls, and with blanks for operator and destination
 abbrev pub begun_with : Key → ℕ → List Bool → List ℕ → Record
 begun_with key to days train =
-    record {
-      key = key;
-      to = to;
-      days = days;
-      train = train;
-      operator = blank_record.operator;
-      destination = blank_record.destination;
-      calls = blank_record.calls;
-      count = 0;
-    }
+    record blank_record { key = key; to = to; days = days; train = train }
 
 -- the schedule with an operator; a cancellation stays bare
 abbrev pub with_operator : Record → List ℕ → Record
 with_operator r operator =
-    cond (is_cancellation r.key.stp) r
-    (record { key = r.key; to = r.to; days = r.days; train = r.train; operator = operator; destination = r.destination; calls = r.calls; count = r.count })
+    if is_cancellation r.key.stp then r else record r { operator = operator }
 
 -- the schedule with a destination; a cancellation stays bare
 abbrev pub with_destination : Record → List ℕ → Record
 with_destination r destination =
-    cond (is_cancellation r.key.stp) r
-    (record { key = r.key; to = r.to; days = r.days; train = r.train; operator = r.operator; destination = destination; calls = r.calls; count = r.count })
+    if is_cancellation r.key.stp then r else record r { destination = destination }
 
 -- a location row is a kept call when it has a public arrival or a public departure
 abbrev pub is_kept : Location → Bool
@@ -49,9 +38,7 @@ adds_call r l = not (is_cancellation r.key.stp) && is_kept l
 -- the schedule with a location's call after those that it has, if the location is a kept call
 abbrev pub with_call : Record → Location → Record
 with_call r l =
-    cond (adds_call r l)
-    (record { key = r.key; to = r.to; days = r.days; train = r.train; operator = r.operator; destination = r.destination; calls = slice_set r.calls r.count l; count = r.count + 1 })
-    r
+    if adds_call r l then record r { calls = slice_set r.calls r.count l; count = r.count + 1 } else r
 
 -- why a location cannot be taken: a 49th kept call, a third kept call at one TIPLOC
 abbrev pub call_lines : Record → Location → List TableLine
@@ -76,4 +63,4 @@ Brings step (IsDeleted k) after = after ≡ IsDeleted k
 abbrev pub bringing_lines : Change → Location → List TableLine
 bringing_lines (New r) l = call_lines r l
 bringing_lines (Revise r) l = call_lines r l
-bringing_lines (Delete k) l = []
+bringing_lines _ l = []

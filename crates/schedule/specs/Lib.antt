@@ -1,5 +1,6 @@
 pub mod Keys
 pub mod Records
+pub mod Schedules
 pub mod Transactions
 pub mod Building
 pub mod Orders

@@ -1,9 +1,9 @@
 -- What every schedule that exists has, as a test of the record that holds it.
-use Rattle.std.specs.Prelude.{ℕ, ◌+◌, Bool, true, false, cond, ◌&&◌, leb, List, [], ◌∷◌, take, drop, replicate, Some, None, Option, ◌==◌, nat_le, nat_lt}
+use Rattle.std.specs.Prelude.{ℕ, ◌+◌, Bool, true, false, if◌then◌else◌, ◌&&◌, List, [], ◌∷◌, take, drop, replicate, None, Option, ◌==◌, nat_le, nat_lt}
 use Rattle.std.specs.List.{list_all}
 use Rattle.std.specs.Str.{bytes_eq}
 use Rattle.forms.specs.declared.letters.Stp.{Stp}
-use Rattle.forms.specs.declared.letters.Stp.TheVariants.{Cancellation, ShortTerm, Overlay, Permanent}
+use Rattle.forms.specs.declared.letters.Stp.TheVariants.{Cancellation, Permanent}
 use Rattle.cif.specs.declared.content.Location.{Location}
 use Rattle.schedule.specs.declared.key.Key.{Key}
 use Rattle.schedule.specs.declared.record.Record.{Record}
@@ -23,16 +23,16 @@ is_at tiploc call = bytes_eq call.tiploc tiploc
 -- how many of some calls are at a TIPLOC
 abbrev pub visits : List ℕ → List Location → ℕ
 visits tiploc [] = 0
-visits tiploc (c ∷ cs) = cond (is_at tiploc c) (visits tiploc cs + 1) (visits tiploc cs)
+visits tiploc (c ∷ cs) = if is_at tiploc c then visits tiploc cs + 1 else visits tiploc cs
 
 -- no TIPLOC appears in more than two calls
 abbrev pub few_visits : List Location → Bool
-few_visits calls = list_all (λ c. leb (visits c.tiploc calls) 2) calls
+few_visits calls = list_all (λ c. nat_le (visits c.tiploc calls) 2) calls
 
 -- whether there is no time
 abbrev pub no_time : Option ℕ → Bool
-no_time (Some minute) = false
 no_time None = true
+no_time _ = false
 
 -- no operator
 abbrev pub two_blanks : List ℕ
@@ -73,16 +73,14 @@ blank_record =
 -- whether a letter is C
 abbrev pub is_cancellation : Stp → Bool
 is_cancellation Cancellation = true
-is_cancellation ShortTerm = false
-is_cancellation Overlay = false
-is_cancellation Permanent = false
+is_cancellation _ = false
 
 -- a cancellation has no calls, and blanks for operator and destination
 abbrev pub bare_if_cancelled : Record → Bool
 bare_if_cancelled r =
-    cond (is_cancellation r.key.stp)
-    (r.count == 0 && (bytes_eq r.operator two_blanks && bytes_eq r.destination seven_blanks))
-    true
+    if is_cancellation r.key.stp
+    then r.count == 0 && (bytes_eq r.operator two_blanks && bytes_eq r.destination seven_blanks)
+    else true
 
 -- the UID number is below 2,600,000, no day is above 36,524, it runs from no later than it runs to
 abbrev pub in_range : Record → Bool

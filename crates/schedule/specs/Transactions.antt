@@ -23,7 +23,7 @@ plain_of (IsDeleted key) = Delete key
 abbrev pub is_lawful : Change → Bool
 is_lawful (New plain) = is_schedule plain
 is_lawful (Revise plain) = is_schedule plain
-is_lawful (Delete key) = true
+is_lawful _ = true
 
 -- every transaction of a list is lawful
 abbrev pub every_lawful : List Change → Bool

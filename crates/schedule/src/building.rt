@@ -1,7 +1,8 @@
 // A schedule as it is read, row by row.
-ghost use Rattle.std.specs.Prelude.{◌≡◌, ◌≤◌, true, false, length, Some, None, MatchOption, MatchResult};
-ghost use Rattle.cif.specs.Refusals.{uppermost};
-ghost use Rattle.schedule.specs.Records.{in_range, visits, kept_calls};
+ghost use Rattle.std.specs.Prelude.{◌≡◌, IsFalse, MatchOption, IfOk};
+ghost use Rattle.cif.specs.Refusals.{uppermost, fault_of};
+ghost use Rattle.schedule.specs.Records.{in_range};
+ghost use Rattle.schedule.specs.Schedules.{record_of};
 ghost use Rattle.schedule.specs.Building.{begun_with, with_operator, with_destination, is_kept, with_call, call_lines, bringing, Brings, bringing_lines};
 ghost use Rattle.schedule.specs.Transactions.{plain_of};
 
@@ -22,9 +23,11 @@ fn is_kept(location: &Location) -> bool
 }
 
 impl Schedule {
-    // The schedule that begins with these, if it is in range: it has no calls, and blanks for operator and destination.
+    /// The schedule that begins with these, if it is in range: it has no calls, and blanks for operator and destination.
+    /// `to` is its last day, as a day number.
     pub fn begun(key: Key, to: u16, days: [bool; 7], train: [u8; 4]) -> Option<Schedule>
-        ensures { MatchOption result (in_range (begun_with key to days train) ≡ false) (λ s. s.plain ≡ begun_with key to days train) }
+        ensures { let begun = begun_with key to days train in
+            MatchOption result (IsFalse (in_range begun)) (λ s. record_of s ≡ begun) }
     {
         let plain = Record {
             key,
@@ -36,9 +39,9 @@ impl Schedule {
         Schedule::try_from(plain).ok()
     }
 
-    // The schedule with an operator; a cancellation stays bare.
+    /// The schedule with an operator; a cancellation stays bare.
     pub fn with_operator(self, operator: [u8; 2]) -> Schedule
-        ensures { result.plain ≡ with_operator self.plain operator }
+        ensures { record_of result ≡ with_operator (record_of self) operator }
     {
         let mut plain = self.plain;
         if plain.key.stp != Stp::Cancellation {
@@ -47,9 +50,9 @@ impl Schedule {
         Schedule { plain }
     }
 
-    // The schedule with a destination; a cancellation stays bare.
+    /// The schedule with a destination; a cancellation stays bare.
     pub fn with_destination(self, destination: [u8; 7]) -> Schedule
-        ensures { result.plain ≡ with_destination self.plain destination }
+        ensures { record_of result ≡ with_destination (record_of self) destination }
     {
         let mut plain = self.plain;
         if plain.key.stp != Stp::Cancellation {
@@ -58,9 +61,11 @@ impl Schedule {
         Schedule { plain }
     }
 
-    // The schedule with a location's call after those that it has, if the location is a kept call.
+    /// The schedule with a location's call after those that it has, if the location is a kept call. Refused are a 49th
+    /// kept call, and a third kept call at one TIPLOC.
     pub fn with_call(self, location: Location) -> Result<Schedule, ColumnFault>
-        ensures { MatchResult result (λ s. (s.plain ≡ with_call self.plain location) × (uppermost (call_lines self.plain location) ≡ None)) (λ e. uppermost (call_lines self.plain location) ≡ Some e) }
+        ensures made { IfOk result (λ s. record_of s ≡ with_call (record_of self) location) }
+        ensures told { fault_of result ≡ uppermost (call_lines (record_of self) location) }
     {
         let mut plain = self.plain;
         if plain.key.stp == Stp::Cancellation || !is_kept(&location) {
@@ -92,23 +97,26 @@ impl Transaction {
         }
     }
 
-    // The transaction with an operator in the schedule that it brings.
+    /// The transaction with an operator in the schedule that it brings.
     pub fn with_operator(self, operator: [u8; 2]) -> Transaction
         ensures { plain_of result ≡ bringing (λ s. with_operator s operator) (plain_of self) }
     {
         self.bringing(|schedule| schedule.with_operator(operator))
     }
 
-    // The transaction with a destination in the schedule that it brings.
+    /// The transaction with a destination in the schedule that it brings.
     pub fn with_destination(self, destination: [u8; 7]) -> Transaction
         ensures { plain_of result ≡ bringing (λ s. with_destination s destination) (plain_of self) }
     {
         self.bringing(|schedule| schedule.with_destination(destination))
     }
 
-    // The transaction with a call more in the schedule that it brings.
+    /// The transaction with a call more in the schedule that it brings; a deletion brings none, and stays as it is. Refused
+    /// are a 49th kept call, and a third kept call at one TIPLOC.
     pub fn with_call(self, location: Location) -> Result<Transaction, ColumnFault>
-        ensures { MatchResult result (λ t. (plain_of t ≡ bringing (λ s. with_call s location) (plain_of self)) × (uppermost (bringing_lines (plain_of self) location) ≡ None)) (λ e. uppermost (bringing_lines (plain_of self) location) ≡ Some e) }
+        ensures made { IfOk result
+            (λ t. plain_of t ≡ bringing (λ s. with_call s location) (plain_of self)) }
+        ensures told { fault_of result ≡ uppermost (bringing_lines (plain_of self) location) }
     {
         match self {
             Transaction::New(schedule) => Ok(Transaction::New(schedule.with_call(location)?)),

@@ -1,8 +1,9 @@
 // The check that makes a schedule of a record.
-ghost use Rattle.std.specs.Prelude.{◌≡◌, ◌≤◌, true, false, ◌&&◌, length, take, drop, MatchResult, nat_le};
+ghost use Rattle.std.specs.Prelude.{◌≡◌, ◌≤◌, ◌&&◌, length, take, drop, IsTrue, IsFalse, MatchResult, nat_le};
 ghost use Rattle.std.specs.Str.{bytes_eq};
 ghost use Rattle.std.specs.List.{list_all};
 ghost use Rattle.schedule.specs.Records.{is_at, visits, few_visits, is_filler, bare_if_cancelled, is_schedule};
+ghost use Rattle.schedule.specs.Schedules.{record_of};
 
 use crate::key::Key;
 use crate::record::{CALLS, Record};
@@ -10,14 +11,14 @@ use crate::schedule::{NotASchedule, Schedule};
 use cif::content::Location;
 use forms::letters::Stp;
 
-// Whether a call is at a TIPLOC, whatever its suffix.
+/// Whether a call is at a TIPLOC, whatever its suffix.
 pub fn is_at(call: &Location, tiploc: &[u8; 7]) -> bool
     ensures { result ≡ is_at tiploc.now call.now }
 {
     call.tiploc == *tiploc
 }
 
-// How many of some calls are at a TIPLOC.
+/// How many of some calls are at a TIPLOC, whatever their suffixes.
 pub fn visits_of(calls: &[Location], tiploc: &[u8; 7]) -> usize
     ensures { result ≡ visits tiploc.now calls.now }
 {
@@ -31,7 +32,7 @@ fn is_seldom(call: &Location, calls: &[Location]) -> bool
     visits_of(calls, &call.tiploc) <= 2
 }
 
-// Whether no TIPLOC appears in more than two calls.
+/// Whether no TIPLOC appears in more than two calls.
 pub fn few_visits(calls: &[Location]) -> bool
     ensures { result ≡ few_visits calls.now }
 {
@@ -59,7 +60,8 @@ fn all_fillers(calls: &[Location]) -> bool
 // Whether the first calls, so many as are counted, visit no TIPLOC too often, and the others are fillers.
 fn are_kept_then_filled(calls: &[Location], count: usize) -> bool
     requires { count ≤ length calls.now }
-    ensures { result ≡ (few_visits (take count calls.now) && list_all is_filler (drop count calls.now)) }
+    ensures { result
+        ≡ (few_visits (take count calls.now) && list_all is_filler (drop count calls.now)) }
 {
     few_visits(&calls[..count]) && all_fillers(&calls[count..])
 }
@@ -72,7 +74,7 @@ impl Record {
             || self.count == 0 && self.operator == *b"  " && self.destination == *b"       "
     }
 
-    // Whether this is the record of a schedule.
+    /// Whether this is the record of a schedule.
     pub fn is_schedule(&self) -> bool
         ensures { result ≡ is_schedule self.now }
     {
@@ -92,7 +94,9 @@ impl Record {
 impl TryFrom<Record> for Schedule {
     type Error = NotASchedule;
 
-    ghost try_from_gives = { λ plain r. MatchResult r (λ s. (s.plain ≡ plain) × (is_schedule plain ≡ true)) (λ _. is_schedule plain ≡ false) };
+    ghost try_from_gives = { λ plain r.
+        MatchResult r (λ s. (record_of s ≡ plain) × IsTrue (is_schedule plain))
+        (λ _. IsFalse (is_schedule plain)) };
 
     fn try_from(plain: Record) -> Result<Schedule, NotASchedule> {
         if plain.is_schedule() {
@@ -104,8 +108,9 @@ impl TryFrom<Record> for Schedule {
 }
 
 impl Schedule {
+    /// What the schedule is found by.
     pub fn key(&self) -> Key
-        ensures { result ≡ self.now.plain.key }
+        ensures { result ≡ (record_of self.now).key }
     {
         self.plain.key
     }

@@ -1,5 +1,5 @@
 // The order of keys.
-ghost use Rattle.std.specs.Prelude.{◌≡◌, ◌<◌, true, false};
+ghost use Rattle.std.specs.Prelude.{◌≡◌, ◌<◌, IsTrue, IsFalse};
 ghost use Rattle.schedule.specs.declared.key.Key.{Key};
 ghost use Rattle.schedule.specs.Keys.{rank_of, key_before};
 ghost use Rattle.schedule.specs.Records.{key_of};
@@ -10,7 +10,7 @@ use crate::record::Record;
 use forms::letters::Stp;
 use ordered::keys::{KeyOrder, Keyed};
 
-// The place of an STP letter in the order C, N, O, P.
+/// The place of an STP letter in the order C, N, O, P, from 0 on.
 pub fn rank(stp: Stp) -> u8
     ensures { result ≡ rank_of stp }
 {
@@ -22,10 +22,10 @@ pub fn rank(stp: Stp) -> u8
     }
 }
 
-// The key right after another of a train, unless that one's day is the last that 16 bits can hold.
+/// The key right after another of a train, unless that one's day is the last that 16 bits can hold.
 pub fn next_in_train(key: Key) -> Key
-    ensures later { key.from < 65535 → key_before key result ≡ true }
-    ensures tight { (q : Key) → key_before q result ≡ true → key_before key q ≡ false }
+    ensures later { key.from < 65535 → IsTrue (key_before key result) }
+    ensures tight { (q : Key) → IsTrue (key_before q result) → IsFalse (key_before key q) }
     ensures train { result.uid ≡ key.uid }
 {
     match key.stp {

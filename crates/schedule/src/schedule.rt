@@ -1,23 +1,27 @@
 // A record that was found to be a schedule.
-ghost use Rattle.std.specs.Prelude.{◌≡◌, true, false};
+ghost use Rattle.std.specs.Prelude.{◌≡◌, true, IsTrue};
 ghost use Rattle.schedule.specs.Records.{is_schedule, blank_record};
 
 use crate::key::Key;
-use crate::record::Record;
+use crate::record::{CALLS, Record};
 use cif::content::Location;
 use forms::letters::Stp;
 
-// A schedule has the properties of every schedule that exists. It is passed by value or written whole, and never lies in a slot.
+/// A schedule has the properties of every schedule that exists. It is passed by value or written whole, and never lies in a
+/// slot. docs/schedules.md has the rules.
 #[derive(Clone, Copy, Debug, PartialEq, Eq)]
 pub struct Schedule {
     pub(crate) plain: Record,
-    ghost valid: { is_schedule plain ≡ true },
+    ghost valid: { IsTrue (is_schedule plain) },
 }
 
 impl Schedule {
-    // A schedule to be written over: a permanent one of day 0 that never runs, without calls, and blank.
+    ghost use Rattle.std.specs.Bool.{OnTrue, OnFalse};
+    ghost use Rattle.schedule.specs.Schedules.{record_of};
+
+    /// A schedule to be written over: a permanent one of day 0 that never runs, without calls, and blank.
     pub fn blank() -> Schedule
-        ensures { result.plain ≡ blank_record }
+        ensures { record_of result ≡ blank_record }
     {
         let filler = Location {
             tiploc: *b"       ",
@@ -37,24 +41,24 @@ impl Schedule {
             train: *b"    ",
             operator: *b"  ",
             destination: *b"       ",
-            calls: [filler; 48],
+            calls: [filler; CALLS],
             count: 0,
         };
         Schedule { plain }
     }
 
-    // The record that holds the schedule, where it lies.
+    /// The record that holds the schedule, where it lies.
     pub fn record(&self) -> &Record
-        ensures { result.now ≡ self.now.plain }
+        ensures { result.now ≡ record_of self.now }
     {
         &self.plain
     }
 
-    // Becomes the schedule that a record holds, if it holds one.
+    /// Becomes the schedule that a record holds, if it holds one, and says whether it does.
     pub fn set(&mut self, plain: &Record) -> bool
         ensures told { result ≡ is_schedule plain.now }
-        ensures set { result ≡ true → self.new.plain ≡ plain.now }
-        ensures unchanged { result ≡ false → self.new ≡ self.old }
+        ensures set { OnTrue result (record_of self.new ≡ plain.now) }
+        ensures unchanged { OnFalse result (self.new ≡ self.old) }
     {
         if !plain.is_schedule() {
             return false;
@@ -66,13 +70,15 @@ impl Schedule {
 
 // The record that holds a schedule.
 impl From<Schedule> for Record {
-    ghost from_gives = { λ s r. r ≡ s.plain };
+    ghost use Rattle.schedule.specs.Schedules.{record_of};
+
+    ghost from_gives = { λ s r. r ≡ record_of s };
 
     fn from(schedule: Schedule) -> Record {
         schedule.plain
     }
 }
 
-// A record that was found to be no schedule.
+/// A record that was found to be no schedule.
 #[derive(Clone, Copy, Debug, PartialEq, Eq)]
 pub struct NotASchedule;

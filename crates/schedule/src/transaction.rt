@@ -1,30 +1,36 @@
 // Transactions.
-ghost use Rattle.std.specs.Prelude.{◌≡◌, true};
+ghost use Rattle.std.specs.Prelude.{◌≡◌, IsTrue};
 ghost use Rattle.schedule.specs.Transactions.{changed_key, is_lawful, plain_of};
 
 use crate::key::Key;
 use crate::record::Record;
 use crate::schedule::Schedule;
 
-// A transaction: a schedule that is new, one that takes another's place, or the key of one to delete.
+/// A transaction: what one BS row and the rows below it ask for.
 #[derive(Clone, Copy, Debug, PartialEq, Eq)]
 pub enum Transaction {
+    /// A schedule whose key is not there yet.
     New(Schedule),
+    /// A schedule that takes the place of the one of its key.
     Revise(Schedule),
+    /// The key of a schedule that goes.
     Delete(Key),
 }
 
-// A transaction as it lies in memory, with the plain record of its schedule.
+/// A transaction as it lies in memory, with the plain record of its schedule.
 #[derive(Clone, Copy, Debug, PartialEq, Eq)]
 pub enum Change {
+    /// The record of a schedule whose key is not there yet.
     New(Record),
+    /// The record of a schedule that takes the place of the one of its key.
     Revise(Record),
+    /// The key of a schedule that goes.
     Delete(Key),
 }
 
 // A transaction as it lies in memory.
 impl From<Transaction> for Change {
-    ghost from_gives = { λ t c. (c ≡ plain_of t) × (is_lawful c ≡ true) };
+    ghost from_gives = { λ t c. (c ≡ plain_of t) × IsTrue (is_lawful c) };
 
     fn from(transaction: Transaction) -> Change {
         match transaction {
@@ -36,7 +42,7 @@ impl From<Transaction> for Change {
 }
 
 impl Change {
-    // The key of the schedule that is changed.
+    /// The key of the schedule that is changed.
     pub fn key(&self) -> Key
         ensures { result ≡ changed_key self.now }
     {

@@ -1,4 +1,5 @@
 use Rattle.std.proofs.Common.{length, subst, ap}
+use Rattle.std.proofs.lemmas.Result.{on_err_weaker}
 use Rattle.maps.specs.Places.{Passed, Found}
 use Rattle.ordered.specs.Tables.{items}
 use Rattle.ordered.proofs.Laws.{lawful}
@@ -14,7 +15,7 @@ invariant_of-self g c =
 pub invariant_of-self-in-None : goal.invariant_of-self-in-None
 invariant_of-self-in-None g c =
     let passed = subst (λ xs. Passed g.E.Key.KeyOrder.before g.E.Keyed.keyed xs c.key.result (length xs)) c.held.ensures c.in-None.ensures in
-    record { distinct = passed_apart g.E.Key.KeyOrder.before g.E.Keyed.keyed (lawful g.met.E.Key.KeyOrder) _ _ _ _ _ c.args.self.now.distinct c.key.ensures passed c.push.ensures.items (λ h. ap items (c.push.ensures.unchanged h)) }
+    record { distinct = passed_apart g.E.Key.KeyOrder.before g.E.Keyed.keyed (lawful g.met.E.Key.KeyOrder) _ _ _ _ c.try_push.result c.args.self.now.distinct c.key.ensures passed c.try_push.ensures.items (on_err_weaker c.try_push.result (ap items) c.try_push.ensures.unchanged) }
 
 pub returns-in-Some-clause-put : goal.returns-in-Some-clause-put
 returns-in-Some-clause-put g c =
@@ -24,7 +25,7 @@ returns-in-Some-clause-put g c =
 pub returns-in-None-clause-put : goal.returns-in-None-clause-put
 returns-in-None-clause-put g c =
     let passed = subst (λ xs. Passed g.E.Key.KeyOrder.before g.E.Keyed.keyed xs c.key.result (length xs)) c.held.ensures c.in-None.ensures in
-    put_passed g.E.Key.KeyOrder.before g.E.Keyed.keyed (lawful g.met.E.Key.KeyOrder) _ _ _ _ _ _ c.args.self.now.distinct c.key.ensures passed c.push.ensures.done c.push.ensures.items (λ h. ap items (c.push.ensures.unchanged h))
+    put_passed g.E.Key.KeyOrder.before g.E.Keyed.keyed (lawful g.met.E.Key.KeyOrder) _ _ _ _ _ c.try_push.result c.args.self.now.distinct c.key.ensures passed c.try_push.ensures.done c.try_push.ensures.items (on_err_weaker c.try_push.result (ap items) c.try_push.ensures.unchanged)
 
 pub returns-in-None-clause-unchanged : goal.returns-in-None-clause-unchanged
-returns-in-None-clause-unchanged g c = λ h. same_loose _ _ (c.push.ensures.unchanged h)
+returns-in-None-clause-unchanged g c = on_err_weaker c.try_push.result (same_loose _ _) c.try_push.ensures.unchanged

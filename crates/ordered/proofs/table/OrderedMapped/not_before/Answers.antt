@@ -9,7 +9,7 @@ pub returns-clause-value : goal.returns-clause-value
 returns-clause-value g c =
     let s = c.args.self.now.inner in
     let found = c.seek-place.ensures.found c.args.self.now.rising in
-    let there = key_there g.E.Key.KeyOrder.before g.E.Keyed.keyed (lawful g.met.E.Key.KeyOrder) _ s.len c.seek-place.result _ c.get.result (length-take-le s.len s.slots.now s.fits) c.seek-place.ensures.within found.0 found.1 (search (rules, c.get.ensures.value, c.seek-place.ensures.same)) in
+    let there = key_there g.E.Key.KeyOrder.before g.E.Keyed.keyed (lawful g.met.E.Key.KeyOrder) _ s.len c.seek-place.result _ c.get.result (length-take-le s.len s.slots.now s.fits) c.seek-place.ensures.within found.under found.over (search (rules, c.get.ensures.value, c.seek-place.ensures.same)) in
     search rules
 
 pub returns-clause-same : goal.returns-clause-same

@@ -1,5 +1,6 @@
 use Rattle.std.proofs.Common.{length, nat_lt, set, ap, ◌∙◌}
 use Rattle.std.specs.List.{insert}
+use Rattle.std.proofs.lemmas.Result.{on_ok_weaker, on_err_weaker}
 use Rattle.ordered.specs.Tables.{items, room}
 use Rattle.ordered.proofs.Changes.{put_hit, hit_rises, put_miss, miss_rises}
 use Rattle.ordered.proofs.Laws.{lawful}
@@ -17,7 +18,7 @@ invariant_of-self-in-Err g c =
     let same = c.in-Err.ensures.same in
     record {
       rising = miss_rises (lawful g.met.E.Key.KeyOrder) _ _ _ _ _ _ _ up c.key.ensures (c.in-Err.ensures.place up) (c.insert.ensures.done ∙ ap (λ s. nat_lt (length (items s)) (room s)) same)
-          (λ h. c.insert.ensures.items h ∙ ap (λ s. insert (items s) c.in-Err.place c.args.entry) same) (λ h. ap items (c.insert.ensures.unchanged h ∙ same));
+          (on_ok_weaker c.insert.result (λ e. e ∙ ap (λ s. insert (items s) c.in-Err.place c.args.entry) same) c.insert.ensures.items) (on_err_weaker c.insert.result (λ e. ap items (e ∙ same)) c.insert.ensures.unchanged);
     }
 
 pub returns-in-Ok-clause-put : goal.returns-in-Ok-clause-put
@@ -30,7 +31,7 @@ returns-in-Err-clause-put g c =
     let up = c.args.self.now.rising in
     let same = c.in-Err.ensures.same in
     put_miss (lawful g.met.E.Key.KeyOrder) _ _ _ _ _ _ _ up c.key.ensures (c.in-Err.ensures.place up) (c.insert.ensures.done ∙ ap (λ s. nat_lt (length (items s)) (room s)) same)
-    (λ h. c.insert.ensures.items h ∙ ap (λ s. insert (items s) c.in-Err.place c.args.entry) same) (λ h. ap items (c.insert.ensures.unchanged h ∙ same))
+    (on_ok_weaker c.insert.result (λ e. e ∙ ap (λ s. insert (items s) c.in-Err.place c.args.entry) same) c.insert.ensures.items) (on_err_weaker c.insert.result (λ e. ap items (e ∙ same)) c.insert.ensures.unchanged)
 
 pub returns-in-Err-clause-unchanged : goal.returns-in-Err-clause-unchanged
-returns-in-Err-clause-unchanged g c = λ h. same_ordered _ _ (c.insert.ensures.unchanged h ∙ c.in-Err.ensures.same)
+returns-in-Err-clause-unchanged g c = on_err_weaker c.insert.result (λ e. same_ordered _ _ (e ∙ c.in-Err.ensures.same)) c.insert.ensures.unchanged

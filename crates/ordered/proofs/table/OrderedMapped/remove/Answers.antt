@@ -22,4 +22,4 @@ pub returns-in-Err-clause-removed : goal.returns-in-Err-clause-removed
 returns-in-Err-clause-removed g c = removed_miss (lawful g.met.E.Key.KeyOrder) _ _ _ _ c.args.self.now.rising (c.in-Err.ensures.place c.args.self.now.rising) (ap items c.in-Err.ensures.same)
 
 pub returns-in-Err-clause-unchanged : goal.returns-in-Err-clause-unchanged
-returns-in-Err-clause-unchanged g c = λ _. same_ordered _ _ c.in-Err.ensures.same
+returns-in-Err-clause-unchanged g c = same_ordered _ _ c.in-Err.ensures.same

@@ -1,4 +1,5 @@
 use Rattle.std.proofs.Common.{arith}
+use Rattle.std.proofs.lemmas.Bool.{OnFalse_at, OnFalse_from}
 use Rattle.timetable.proofs.Valid.{removed_valid}
 use Rattle.stores.proofs.Whole.{same_store}
 use Rattle.stores.proofs.slot_store.SlotStoreStore.remove.Goals as goal
@@ -13,4 +14,4 @@ invariant_of-self g c =
     }
 
 pub returns-clause-unchanged : goal.returns-clause-unchanged
-returns-clause-unchanged g c = λ h. same_store _ _ (c.remove.ensures.unchanged h)
+returns-clause-unchanged g c = OnFalse_from c.remove.result _ (λ h. same_store _ _ (OnFalse_at h c.remove.ensures.unchanged))

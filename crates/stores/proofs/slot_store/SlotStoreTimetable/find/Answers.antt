@@ -1,4 +1,5 @@
 use Rattle.std.proofs.Common.{is_some, unwrap_or, ap, ◌∙◌}
+use Rattle.std.proofs.lemmas.Bool.{OnTrue_at}
 use Rattle.timetable.proofs.Valid.{found_valid}
 use Rattle.stores.proofs.Whole.{same_store}
 use Rattle.stores.proofs.slot_store.SlotStoreTimetable.find.Goals as goal
@@ -8,7 +9,7 @@ returns-in-Some-clause-found g c = c.set.ensures.told ∙ found_valid _ c.args.k
 
 pub returns-in-Some-clause-copied : goal.returns-in-Some-clause-copied
 returns-in-Some-clause-copied g c =
-    c.set.ensures.set (c.set.ensures.told ∙ found_valid _ c.args.key c.in-Some.plain c.args.self.now.valid c.in-Some.ensures.value)
+    OnTrue_at (c.set.ensures.told ∙ found_valid _ c.args.key c.in-Some.plain c.args.self.now.valid c.in-Some.ensures.value) c.set.ensures.set
     ∙ ap (λ o. unwrap_or o c.args.place.now.plain) c.in-Some.ensures.value
 
 pub returns-in-Some-clause-same : goal.returns-in-Some-clause-same
