@@ -4,7 +4,7 @@ ghost use Rattle.std.specs.Prelude.{◌≡◌};
 use crate::line::Line;
 use ordered::ordered::Ordered;
 
-/// A station and a day, of which a board shows the departures.
+/// A station, seven bytes with blanks at the end, and a day, as a day number, of which a board shows the departures.
 #[derive(Clone, Copy, Debug, PartialEq, Eq)]
 pub struct StationDay {
     pub station: [u8; 7],
@@ -19,9 +19,11 @@ pub struct Board<'a> {
 }
 
 impl Board<'_> {
+    ghost use Rattle.board.specs.Boards.{shown_of};
+
     /// The station and day that it was turned to, if it was.
     pub fn shown(&self) -> Option<StationDay>
-        ensures { result ≡ self.now.shown }
+        ensures { result ≡ shown_of self.now }
     {
         self.shown
     }

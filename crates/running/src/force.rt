@@ -3,7 +3,7 @@ ghost use Rattle.std.specs.Prelude.{◌≡◌, ◌+◌, None, Some, if◌then◌
 ghost use Rattle.schedule.specs.declared.record.Record.{Record};
 ghost use Rattle.timetable.specs.Timetables.{schedule_of, not_before};
 ghost use Rattle.running.specs.Running.{covering, IsForceOf};
-ghost use Rattle.running.specs.Walking.{outranking, takes, record_of, first_of, IsFirst};
+ghost use Rattle.running.specs.Walking.{outranking, takes, record_in, first_of, IsFirst};
 
 use forms::letters::Stp;
 use schedule::key::Key;
@@ -31,7 +31,7 @@ fn outranks(here: &Record, best: &Record) -> bool
 
 // Whether a schedule covers a day and outranks the best so far, if there is one.
 fn takes_place(here: &Record, day: u16, best: &Option<Schedule>) -> bool
-    ensures { result ≡ takes here.now day (record_of best.now) }
+    ensures { result ≡ takes here.now day (record_in best.now) }
 {
     covers(here, day)
         && match best {
@@ -62,8 +62,8 @@ impl Walk {
     fn consider<T: Timetable>(&mut self, timetable: &mut T, key: Key, day: u16)
         ensures best {
             (h : Record) → schedule_of (T.meaning timetable.old).map key ≡ Some h
-            → record_of self.new.best
-            ≡ (if takes h day (record_of self.old.best) then Some h else record_of self.old.best)
+            → record_in self.new.best
+            ≡ (if takes h day (record_in self.old.best) then Some h else record_in self.old.best)
         }
         ensures same { timetable.new ≡ timetable.old }
     {
