@@ -1,4 +1,4 @@
-use Rattle.std.proofs.Common.{◌∙◌}
+use Rattle.std.proofs.Common.{sym, ◌∙◌}
 use Rattle.std.proofs.lemmas.Result.{err_from_is_err_and}
 use Rattle.schedule.specs.Building.{bringing_lines}
 use Rattle.schedule.specs.Transactions.{plain_of}
@@ -7,7 +7,7 @@ use Rattle.extract.proofs.Lines.{first_told, next_told}
 use Rattle.extract.proofs.extract.Extract.called.Goals as goal
 
 pub returns-in_err-called : goal.returns-in_err-called
-returns-in_err-called c = let p = err_from_is_err_and c.from_residual.result c.from_residual.ensures.1 in rw (p.1, p.2) (first_told (bringing_lines (plain_of c.args.self.now.draft) c.args.location) (room_lines c.args.self.now.taken) _ c.in_err-called.ensures)
+returns-in_err-called c = let p = err_from_is_err_and c.from_residual.result c.from_residual.ensures.1 in rw (p.1, p.2) (first_told (bringing_lines (plain_of c.args.self.now.draft) c.args.location) (room_lines c.args.self.now.taken) _ (sym c.in_err-called.ensures.told))
 
 pub returns-in_err-has_room : goal.returns-in_err-has_room
-returns-in_err-has_room c = let p = err_from_is_err_and c.from_residual-in_err-has_room.result c.from_residual-in_err-has_room.ensures.1 in rw (p.1, p.2) (next_told (bringing_lines (plain_of c.args.self.now.draft) c.args.location) (room_lines c.args.self.now.taken) c.in_ok-called.ensures.1 ∙ c.in_err-has_room.ensures)
+returns-in_err-has_room c = let p = err_from_is_err_and c.from_residual-in_err-has_room.result c.from_residual-in_err-has_room.ensures.1 in rw (p.1, p.2) (next_told (bringing_lines (plain_of c.args.self.now.draft) c.args.location) (room_lines c.args.self.now.taken) (sym c.in_ok-called.ensures.told) ∙ c.in_err-has_room.ensures)
