@@ -1,8 +1,8 @@
 -- The lines of one train, call by call.
-use Rattle.std.proofs.Common.{◌≡◌, ℕ, zero, suc, ◌+◌, ◌<◌, ◌≤◌, Bool, true, false, cond, ltb, leb, ◌⊎◌, List, [], ◌∷◌, ◌++◌, length, get_or, take, Some, None, Option, sym, refl, ap, ◌∙◌, subst, inl, inr, ⊎_elim, add-one, arith}
+use Rattle.std.proofs.Common.{◌≡◌, ℕ, zero, suc, ◌+◌, ◌<◌, ◌≤◌, Bool, true, false, cond, leb, ◌⊎◌, List, [], ◌∷◌, ◌++◌, length, get_or, take, Some, None, Option, sym, refl, ap, ◌∙◌, subst, inl, inr, ⊎_elim, add-one, arith}
 use Rattle.std.proofs.lemmas.List.{length_push}
 use Rattle.std.proofs.lemmas.Slice.Eq.{bytes_eq-Decides}
-use Rattle.std.proofs.lemmas.Bool.{and_parts, cases_Bool, cond-true, cond-false, leb-true, cases_eq, lt-ltb}
+use Rattle.std.proofs.lemmas.Bool.{and_parts, cases_Bool, cond-true, cond-false, leb-true, cases_eq}
 use Rattle.cif.specs.declared.content.Location.{Location}
 use Rattle.maps.specs.Orders.{same}
 use Rattle.maps.specs.Maps.{lookup, gathered}
@@ -167,10 +167,10 @@ two_visits t cs few = ⊎_elim (λ h. h) (λ none. omega arith) (look cs few)
         (λ (u : is_at t d ≡ false). ⊎_elim (λ h. inl h) (λ none. inr (cond-false (is_at t d) _ _ u ∙ none)) (look ds q.1))
         (cases_Bool (is_at t d))
 
--- with room, a line that is pushed is there
-pub added_push : (station : List ℕ) (r : Record) (p : ℕ) (xs ys zs : List Line) (n : ℕ) (x : Line) (b : Bool) → Added station r p xs ys → is_at station no_call ≡ false → Some x ≡ line_at station r p → ((l : Line) → On xs l → l.key.uid ≡ r.key.uid → ⊥) → b ≡ ltb (length ys) n → (b ≡ true → zs ≡ ys ++ x ∷ []) → (is_at station (call_at r p) ≡ true → length ys < n) → Added station r (p + 1) xs zs
-added_push station r p xs ys zs n x b a no_station line fresh done pushed room =
-    subst (λ (v : List Line). Added station r (p + 1) xs v) (sym (pushed (done ∙ lt-ltb (length ys) n (room (line_here station r p x (sym line)).at)))) (added_line station r p xs ys a no_station x line fresh)
+-- a line that is pushed is there
+pub added_push : (station : List ℕ) (r : Record) (p : ℕ) (xs ys zs : List Line) (x : Line) → Added station r p xs ys → is_at station no_call ≡ false → Some x ≡ line_at station r p → ((l : Line) → On xs l → l.key.uid ≡ r.key.uid → ⊥) → zs ≡ ys ++ x ∷ [] → Added station r (p + 1) xs zs
+added_push station r p xs ys zs x a no_station line fresh pushed =
+    subst (λ (v : List Line). Added station r (p + 1) xs v) (sym pushed) (added_line station r p xs ys a no_station x line fresh)
 
 -- more calls have no fewer visits
 visits_mono : (t : List ℕ) (cs : List Location) (a b : ℕ) → a ≤ b → visits t (take a cs) ≤ visits t (take b cs)

@@ -12,10 +12,10 @@ drop_later xs ys n m l e =
 
 -- and more of them
 pub rest_more : (s t u : Slots Line) → RestKept s t → Grown t u → RestKept s u
-rest_more s t u r g = record { rest = g.rest.rest ∙ drop_later t.slots.now s.slots.now t.len u.len g.longer r.rest; slots = g.rest.slots ∙ r.slots }
+rest_more s t u r g = record { rest = g.rest.rest ∙ drop_later t.slots.now s.slots.now t.len u.len g.longer r.rest; slots = g.rest.slots ∙ r.slots; lender = g.rest.lender ∙ r.lender }
 
 pub grown_none : (s : Slots Line) → Grown s s
-grown_none s = record { rest = record { rest = refl; slots = refl }; longer = omega arith }
+grown_none s = record { rest = record { rest = refl; slots = refl; lender = refl }; longer = omega arith }
 
 pub grown_more : (s t u : Slots Line) → Grown s t → Grown t u → Grown s u
 grown_more s t u a b = record { rest = rest_more s t u a.rest b; longer = (let x = a.longer in let y = b.longer in omega arith) }

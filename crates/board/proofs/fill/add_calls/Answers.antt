@@ -6,7 +6,7 @@ use Rattle.board.proofs.Rests.{grown_none, grown_more}
 use Rattle.board.proofs.fill.add_calls.Goals as goal
 
 pub loop-place-init : goal.loop-place-init
-loop-place-init c = (added_none _ _ _, refl, refl, grown_none _)
+loop-place-init c = (added_none _ _ _, refl, grown_none _)
 
 pub add_call-requires : goal.add_call-requires
 add_call-requires c = record {
@@ -20,8 +20,7 @@ pub loop-place-preserved : goal.loop-place-preserved
 loop-place-preserved c = (
   c.add_call.ensures.added (items c.args.lines.now) c.loop-place.invariant.0 c.requires.fresh,
   c.add_call.ensures.room ∙ c.loop-place.invariant.1,
-  c.add_call.ensures.lender ∙ c.loop-place.invariant.2,
-  grown_more _ _ _ c.loop-place.invariant.3 c.add_call.ensures.grown,
+  grown_more _ _ _ c.loop-place.invariant.2 c.add_call.ensures.grown,
 )
 
 pub returns : goal.returns
@@ -29,6 +28,5 @@ returns c = record {
   added = (let e : c.loop-place.place ≡ c.args.plain.now.count = (let k = c.loop-place.auto.place-end in let t = c.loop-place-test.false in omega arith) in
       subst (λ (n : ℕ). Added c.args.station.now c.args.plain.now n (items c.args.lines.now) (items c.loop-place.lines)) e c.loop-place.invariant.0);
   room = c.loop-place.invariant.1;
-  lender = c.loop-place.invariant.2;
-  grown = c.loop-place.invariant.3;
+  grown = c.loop-place.invariant.2;
 }

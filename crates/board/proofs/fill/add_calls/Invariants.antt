@@ -7,5 +7,4 @@ abbrev pub invariant-loop-place : goal.invariant-loop-place
 invariant-loop-place l =
     Added l.station l.plain l.place (items l.initial.lines) (items l.lines)
     × (room l.lines ≡ room l.initial.lines)
-    × (l.lines.slots.ghost_name ≡ l.initial.lines.slots.ghost_name)
     × Grown l.initial.lines l.lines

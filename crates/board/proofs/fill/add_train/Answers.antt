@@ -34,7 +34,6 @@ returns-in_default-stp g c =
           (runs_if _ c.in_default-stp.not-Cancellation) (ap is_schedule c.record-plain.ensures ∙ c.in-Some.schedule.valid) c.add_calls.ensures.added;
       next = c.train-next.ensures.next;
       room = c.add_calls.ensures.room;
-      lender = c.add_calls.ensures.lender;
       grown = c.add_calls.ensures.grown;
       same = c.train-next.ensures.same;
     }

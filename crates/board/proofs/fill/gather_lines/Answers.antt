@@ -20,14 +20,13 @@ loop-next-init g c =
       refl,
       c.not_before-next.ensures.same,
       omega arith,
-      refl,
       starts m 0 c.not_before-next.result is asked,
-      record { rest = refl; slots = refl },
+      record { rest = refl; slots = refl; lender = refl },
     )
 
 -- the key that is walked from is the first one of its train
 first : (g : _) (c : In-Some g) → IsFirst (g.T.Timetable.meaning c.args.timetable.now).map c.in-Some.first
-first g c = subst (StartsTrain (g.T.Timetable.meaning c.args.timetable.now).map) c.in-Some.is c.loop-next.invariant.5
+first g c = subst (StartsTrain (g.T.Timetable.meaning c.args.timetable.now).map) c.in-Some.is c.loop-next.invariant.4
 
 so_far : (g : _) (c : In-Some g) → UpTo (g.T.Timetable.meaning c.args.timetable.now).map c.args.shown.now.station c.args.shown.now.day (Some c.in-Some.first) (items c.loop-next.lines)
 so_far g c = rw c.in-Some.is at c.loop-next.invariant.0
@@ -83,9 +82,8 @@ loop-next-preserved g c =
       c.add_train-next.ensures.room ∙ c.loop-next.invariant.1,
       c.add_train-next.ensures.same ∙ c.loop-next.invariant.2,
       omega arith,
-      c.add_train-next.ensures.lender ∙ c.loop-next.invariant.4,
       starts m (c.in-Some.first.uid + 1) c.add_train-next.result is next,
-      rest_more _ _ _ c.loop-next.invariant.6 c.add_train-next.ensures.grown,
+      rest_more _ _ _ c.loop-next.invariant.5 c.add_train-next.ensures.grown,
     )
 
 pub returns : goal.returns
@@ -95,7 +93,6 @@ returns g c =
       lines = whole (g.T.Timetable.meaning c.args.timetable.now).map c.args.shown.now.station c.args.shown.now.day (items c.loop-next.lines) (rw c.in_default.is at c.loop-next.invariant.0);
       few = omega arith;
       room = c.loop-next.invariant.1;
-      lender = c.loop-next.invariant.4;
-      rest = record { rest = c.loop-next.invariant.6.rest; slots = c.loop-next.invariant.6.slots };
+      rest = let kept = c.loop-next.invariant.5 in record { rest = kept.rest; slots = kept.slots; lender = kept.lender };
       same = c.loop-next.invariant.2;
     }

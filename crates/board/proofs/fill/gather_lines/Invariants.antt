@@ -10,7 +10,6 @@ invariant-loop-next g l =
     × (room l.lines ≡ room l.initial.lines)
     × (l.timetable ≡ l.fn.timetable)
     × (length (items l.lines) + 2 * left_from (g.T.Timetable.meaning l.fn.timetable).map l.next ≤ 2 * length (g.T.Timetable.meaning l.fn.timetable).map)
-    × (l.lines.slots.ghost_name ≡ l.initial.lines.slots.ghost_name)
     × StartsTrain (g.T.Timetable.meaning l.fn.timetable).map l.next
     × RestKept l.initial.lines l.lines
 
