@@ -1,9 +1,15 @@
 // Laws of extracts and of the table of refusals.
-ghost use Rattle.controller.specs.Laws.{OverlayIsOfRows, PendingFits, UppermostIsTold, ReadFromBsToLt, CallsInRowOrder};
+ghost use Rattle.controller.specs.Laws.{OverlayIsOfRows, PendingMayBeDone, PendingFits, UppermostIsTold, ReadFromBsToLt, CallsInRowOrder};
 
 /// The overlay's map is the store's with the transactions of the rows done in order, whatever the store.
 pub fn overlay_is_of_rows()
     ensures { OverlayIsOfRows }
+{
+}
+
+/// Each transaction of the rows, done in order, is one that the table of refusals lets through.
+pub fn pending_may_be_done()
+    ensures { PendingMayBeDone }
 {
 }
 
