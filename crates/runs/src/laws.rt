@@ -1,5 +1,5 @@
 // Laws of the ledger.
-ghost use Rattle.runs.specs.Laws.{RefusedLeavesNoTrace, AbandonLeavesNoTrace, ShownIgnoresExtract, TwoOrdersOneMap, SameTrainsSameLines, CancelledNeverShown, TallyCounts, NothingWithoutConfirm};
+ghost use Rattle.runs.specs.Laws.{RefusedLeavesNoTrace, AbandonLeavesNoTrace, ShownIgnoresExtract, TwoOrdersOneMap, SameTrainsSameLines, CancelledNeverShown, TallyCounts, NothingWithoutConfirm, ConfirmedCouldBeDone};
 
 /// A refused call leaves no trace in any later ledger.
 pub fn refused_leaves_no_trace()
@@ -46,5 +46,11 @@ pub fn tally_counts()
 /// The map, the tally and the reference change by confirmations alone.
 pub fn nothing_without_confirm()
     ensures { NothingWithoutConfirm }
+{
+}
+
+/// Each transaction that was confirmed could be done when its turn came: N found its key absent, R and D found it there.
+pub fn confirmed_could_be_done()
+    ensures { ConfirmedCouldBeDone }
 {
 }
