@@ -142,7 +142,8 @@ pub(crate) fn set_lines<T: Timetable>(
 )
     requires room { 2 * length (T.meaning timetable.old).map ≤ room lines.old.inner }
     ensures board {
-        BoardOf (T.meaning timetable.old).map shown.now.station shown.now.day (items lines.new.inner)
+        BoardOf (T.meaning timetable.old).map shown.now.station shown.now.day
+            (items lines.new.inner)
     }
     ensures few { length (items lines.new.inner) ≤ 2 * length (T.meaning timetable.old).map }
     ensures rest { RestKept lines.old.inner lines.new.inner }

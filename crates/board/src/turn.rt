@@ -65,7 +65,8 @@ impl Board<'_> {
     ) -> Result<(), ColumnFault>
         ensures told {
             fault_of result
-            ≡ uppermost (turn_lines station.now day (slots_of self.old) (S.meaning store.old).capacity)
+            ≡ uppermost
+                (turn_lines station.now day (slots_of self.old) (S.meaning store.old).capacity)
         }
         ensures board {
             OnOk result (BoardOf (S.meaning store.old).map station.now day (lines_of self.new))

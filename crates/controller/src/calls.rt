@@ -42,7 +42,9 @@ impl<S: Store> Controller<S> {
     /// Opens an extract with its HD row, any bytes of any length. What is refused, and with what, is in docs/refusals.md; then
     /// nothing changes.
     pub fn open(&mut self, row: &[u8]) -> Result<(), ExtractFault>
-        ensures told { fault_of result ≡ refusal_of (ToOpen row.now) (standing_in S.meaning self.old) 0 }
+        ensures told {
+            fault_of result ≡ refusal_of (ToOpen row.now) (standing_in S.meaning self.old) 0
+        }
         ensures taken {
             OnOk result (progress_in self.new ≡ after_row (progress_in self.old) row.now)
         }
@@ -60,7 +62,9 @@ impl<S: Store> Controller<S> {
     /// Takes a row of the open extract that is not its HD, any bytes of any length. What is refused, and with what, is in
     /// docs/refusals.md; then nothing changes.
     pub fn row(&mut self, row: &[u8]) -> Result<(), ExtractFault>
-        ensures told { fault_of result ≡ refusal_of (ToHear row.now) (standing_in S.meaning self.old) 0 }
+        ensures told {
+            fault_of result ≡ refusal_of (ToHear row.now) (standing_in S.meaning self.old) 0
+        }
         ensures taken {
             OnOk result (progress_in self.new ≡ after_row (progress_in self.old) row.now)
         }

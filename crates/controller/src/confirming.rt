@@ -48,7 +48,8 @@ impl<S: Store> Controller<S> {
         }
         ensures lines {
             OnOk result
-                (LinesFor (S.meaning (store_of self.new)).map (shown_of board.old) (lines_of board.new))
+                (LinesFor (S.meaning (store_of self.new)).map (shown_of board.old)
+                    (lines_of board.new))
         }
         ensures reference { OnOk result (reference_of self.new ≡ (progress_in self.old).current) }
         ensures tally {

@@ -26,7 +26,8 @@ impl<S: Store> Controller<S> {
     ) -> Result<(), ExtractFault>
         ensures told {
             fault_of result
-            ≡ refusal_of (ToTurn station.now day) (standing_in S.meaning self.old) (slots_of board.old)
+            ≡ refusal_of (ToTurn station.now day) (standing_in S.meaning self.old)
+                (slots_of board.old)
         }
         ensures lines {
             OnOk result

@@ -1,5 +1,5 @@
 // How the open extract moves on with each kind of row.
-ghost use Rattle.std.specs.Prelude.{◌≡◌, ℕ, Bool, true, false, List, [], ◌∷◌, length, is_ok, OnOk, OnErr, if◌then◌else◌, nat_lt};
+ghost use Rattle.std.specs.Prelude.{◌≡◌, ℕ, ◌<◌, Bool, true, false, List, [], ◌∷◌, length, is_ok, OnOk, OnErr, if◌then◌else◌};
 ghost use Rattle.cif.specs.declared.content.Content.TheVariants.{Schedule as OfSchedule};
 ghost use Rattle.schedule.specs.declared.transaction.Change.{Change};
 ghost use Rattle.schedule.specs.Building.{with_operator, with_call, bringing};
@@ -82,19 +82,22 @@ impl Extract {
         pending: &mut Pending,
         location: Location,
     ) -> Result<(), ColumnFault>
+        requires { length (pending_in pending.old) < 32 }
         ensures told {
-            nat_lt (length (pending_in pending.old)) 32 ≡ true
-            → Told (seen self.new (pending_in pending.new))
+            Told (seen self.new (pending_in pending.new))
                 (judged (call_row_lines (plain_of self.old.draft) location self.old.taken)
-                    (moved (seen self.old (pending_in pending.old)) IsBetween (plain_of self.old.draft)
+                    (moved (seen self.old (pending_in pending.old)) IsBetween
+                        (plain_of self.old.draft)
                         (ended_by location (plain_of self.old.draft) ∷ [])))
                 result
         }
         ensures unchanged { OnErr result ((self.new ≡ self.old) × (pending.new ≡ pending.old)) }
-        ensures room { OnOk result (has_room self.new.stage (length (pending_in pending.new)) ≡ true) }
+        ensures room {
+            OnOk result (has_room self.new.stage (length (pending_in pending.new)) ≡ true)
+        }
     {
         let ended = self.called(location)?.with_destination(location.tiploc);
-        let _ = pending.join(ended);
+        pending.join(ended);
         self.stage = Stage::Between;
         self.taken += 1;
         Ok(())
@@ -106,23 +109,22 @@ impl Extract {
         overlay: &mut Overlay<S>,
         b: &BasicSchedule,
     ) -> Result<(), ColumnFault>
+        requires stage { self.old.stage ≡ IsBetween }
         requires range { range_in b.now b.now.change ≡ true }
         ensures told {
-            (reference : List ℕ) → self.old.stage ≡ IsBetween
-            → Told (seen self.new (pending_in overlay.new.pending))
+            (reference : List ℕ) → Told (seen self.new (pending_in overlay.new.pending))
                 (admitted (standing S.meaning self.old overlay.old reference) (OfSchedule b.now))
                 result
         }
         ensures unchanged { OnErr result ((self.new ≡ self.old) × (overlay.new ≡ overlay.old)) }
         ensures room {
-            self.old.stage ≡ IsBetween
-            → OnOk result (has_room self.new.stage (length (pending_in overlay.new.pending)) ≡ true)
+            OnOk result (has_room self.new.stage (length (pending_in overlay.new.pending)) ≡ true)
         }
         ensures store { overlay.new.store ≡ overlay.old.store }
     {
         let asked = self.asked(overlay, b)?;
         if is_brief(b) {
-            let _ = overlay.pending.join(asked);
+            overlay.pending.join(asked);
             self.stage = Stage::Between;
             self.taken += 1;
             return Ok(());

@@ -67,10 +67,13 @@ impl Extract {
     pub fn open(&mut self, row: &Row, reference: &[u8; 7]) -> Result<(), ColumnFault>
         ensures told {
             (store : Meaning) (cs : List Change) → Told (seen self.new cs)
-                (opened_by (judged_at store self.old cs reference.now) row.now.identity row.now.bytes)
+                (opened_by (judged_at store self.old cs reference.now)
+                    row.now.identity row.now.bytes)
                 result
         }
-        ensures room { (n : ℕ) → has_room self.old.stage n ≡ true → has_room self.new.stage n ≡ true }
+        ensures room {
+            (n : ℕ) → has_room self.old.stage n ≡ true → has_room self.new.stage n ≡ true
+        }
         ensures unchanged { OnErr result (self.new ≡ self.old) }
     {
         match (self.stage, row.identity()) {

@@ -16,18 +16,14 @@ use timetable::Store;
 impl Extract {
     /// Takes a row into the extract, or says why it is turned away. It is judged by the stage and the row's identity together.
     pub fn take<S: Store>(&mut self, overlay: &mut Overlay<S>, row: &Row) -> Result<(), ColumnFault>
+        requires { has_room self.old.stage (length (pending_in overlay.old.pending)) ≡ true }
         ensures told {
-            (reference : List ℕ)
-            → has_room self.old.stage (length (pending_in overlay.old.pending)) ≡ true
-            → Told (seen self.new (pending_in overlay.new.pending))
+            (reference : List ℕ) → Told (seen self.new (pending_in overlay.new.pending))
                 (taken_by (standing S.meaning self.old overlay.old reference)
                     row.now.identity row.now.bytes)
                 result
         }
-        ensures room {
-            has_room self.old.stage (length (pending_in overlay.old.pending)) ≡ true
-            → has_room self.new.stage (length (pending_in overlay.new.pending)) ≡ true
-        }
+        ensures room { has_room self.new.stage (length (pending_in overlay.new.pending)) ≡ true }
         ensures unchanged { OnErr result ((self.new ≡ self.old) × (overlay.new ≡ overlay.old)) }
         ensures store { overlay.new.store ≡ overlay.old.store }
     {

@@ -82,7 +82,9 @@ impl Walk {
             IsFirst (T.meaning timetable.old).map first
             → IsForceOf (T.meaning timetable.old).map first.uid day self.new.best
         }
-        ensures next { result ≡ not_before (T.meaning timetable.old).map (first_of (first.uid + 1)) }
+        ensures next {
+            result ≡ not_before (T.meaning timetable.old).map (first_of (first.uid + 1))
+        }
         ensures same { timetable.new ≡ timetable.old }
     {
         self.best = None;
