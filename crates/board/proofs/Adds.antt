@@ -1,5 +1,5 @@
 -- The lines of one train, call by call.
-use Rattle.std.proofs.Common.{◌≡◌, ℕ, zero, suc, ◌+◌, ◌<◌, ◌≤◌, Bool, true, false, cond, leb, ◌⊎◌, List, [], ◌∷◌, ◌++◌, length, get_or, take, Some, None, Option, sym, refl, ap, ◌∙◌, subst, inl, inr, ⊎_elim, add-one, arith}
+use Rattle.std.proofs.Common.{◌≡◌, ℕ, zero, suc, ◌+◌, ◌<◌, ◌≤◌, Bool, true, false, cond, leb, ◌⊎◌, List, [], ◌∷◌, ◌++◌, length, option_and_then, slice_get, take, Some, None, Option, sym, refl, ap, ◌∙◌, subst, inl, inr, ⊎_elim, add-one, arith}
 use Rattle.std.proofs.lemmas.List.{length_push}
 use Rattle.std.proofs.lemmas.Slice.Eq.{bytes_eq-Decides}
 use Rattle.std.proofs.lemmas.Bool.{and_parts, cases_Bool, cond-true, cond-false, leb-true, cases_eq}
@@ -14,39 +14,43 @@ use Rattle.schedule.specs.Records.{is_at, visits, few_visits}
 use Rattle.running.proofs.Forces.{some_is, none_some}
 use Rattle.board.specs.declared.line.LineKey.{LineKey}
 use Rattle.board.specs.declared.line.Line.{Line}
-use Rattle.board.specs.Lines.{line_before, line_key, On, no_call, call_at, departing, line_at}
-use Rattle.board.specs.Filling.{Added}
+use Rattle.board.specs.Lines.{line_before, line_key, On, departing, line_of, line_at}
+use Rattle.board.specs.Filling.{Added, calls_there}
 use Rattle.board.specs.LineOrders.{line_lawful}
 
 -- what a line at a place has
 pub record Here (station : List ℕ) (r : Record) (p : ℕ) (l : Line) : Type 0 where
   pub place : l.key.place ≡ p
   pub uid : l.key.uid ≡ r.key.uid
-  pub at : is_at station (call_at r p) ≡ true
+  pub at : calls_there station (slice_get r.calls p) ≡ true
 
 pub line_here : (station : List ℕ) (r : Record) (p : ℕ) (l : Line) → line_at station r p ≡ Some l → Here station r p l
-line_here station r p l h =
-    ⊎_elim
-    (λ t. from t (call_at r p).departure (sym (cond-true (is_at station (call_at r p)) (departing r p (call_at r p).departure) None t) ∙ h))
-    (λ f. absurd (none_some l (sym (cond-false (is_at station (call_at r p)) (departing r p (call_at r p).departure) None f) ∙ h)))
-    (cases_Bool (is_at station (call_at r p)))
+line_here station r p l h = of (slice_get r.calls p) refl h
   where
-    from : is_at station (call_at r p) ≡ true → (o : Option ℕ) → departing r p o ≡ Some l → Here station r p l
-    from t None e = absurd (none_some l e)
-    from t (Some minute) e = let same_line = some_is _ l e in record { place = sym (ap (λ (x : Line). x.key.place) same_line); uid = sym (ap (λ (x : Line). x.key.uid) same_line); at = t }
+    from : (call : Location) → calls_there station (slice_get r.calls p) ≡ true → (o : Option ℕ) → departing r p call o ≡ Some l → Here station r p l
+    from call t None e = absurd (none_some l e)
+    from call t (Some minute) e = let same_line = some_is _ l e in record { place = sym (ap (λ (x : Line). x.key.place) same_line); uid = sym (ap (λ (x : Line). x.key.uid) same_line); at = t }
+
+    of : (o : Option Location) → slice_get r.calls p ≡ o → option_and_then (line_of station r p) o ≡ Some l → Here station r p l
+    of None c h = absurd (none_some l h)
+    of (Some call) c h =
+        ⊎_elim
+        (λ t. from call (ap (calls_there station) c ∙ t) call.departure (sym (cond-true (is_at station call) (departing r p call call.departure) None t) ∙ h))
+        (λ f. absurd (none_some l (sym (cond-false (is_at station call) (departing r p call call.departure) None f) ∙ h)))
+        (cases_Bool (is_at station call))
 
 pub added_none : (station : List ℕ) (r : Record) (xs : List Line) → Added station r 0 xs xs
 added_none station r xs = record { only = λ l o. inl o; kept = λ l o. o; every = λ l h. absurd (omega arith); few = omega arith; distinct = λ a. a }
 
 -- visits of one call more; past the calls there is none
-pub visits_more : (t : List ℕ) (cs : List Location) (p : ℕ) → is_at t no_call ≡ false → visits t (take (suc p) cs) ≡ cond (is_at t (get_or cs p no_call)) (visits t (take p cs) + 1) (visits t (take p cs))
-visits_more t [] zero no-t = sym (cond-false (is_at t no_call) 1 0 no-t)
-visits_more t [] (suc p) no-t = sym (cond-false (is_at t no_call) 1 0 no-t)
-visits_more t (c ∷ cs) zero no-t = refl
-visits_more t (c ∷ cs) (suc p) no-t =
+pub visits_more : (t : List ℕ) (cs : List Location) (p : ℕ) → visits t (take (suc p) cs) ≡ cond (calls_there t (slice_get cs p)) (visits t (take p cs) + 1) (visits t (take p cs))
+visits_more t [] zero = refl
+visits_more t [] (suc p) = refl
+visits_more t (c ∷ cs) zero = refl
+visits_more t (c ∷ cs) (suc p) =
     ⊎_elim
-    (λ (u : is_at t c ≡ true). rw u (ap (λ n. n + 1) (visits_more t cs p no-t) ∙ moved (is_at t (get_or cs p no_call)) (visits t (take p cs))))
-    (λ (u : is_at t c ≡ false). rw u (visits_more t cs p no-t))
+    (λ (u : is_at t c ≡ true). rw u (ap (λ n. n + 1) (visits_more t cs p) ∙ moved (calls_there t (slice_get cs p)) (visits t (take p cs))))
+    (λ (u : is_at t c ≡ false). rw u (visits_more t cs p))
     (cases_Bool (is_at t c))
   where
     moved : (b : Bool) (n : ℕ) → cond b (n + 1) n + 1 ≡ cond b ((n + 1) + 1) (n + 1)
@@ -76,16 +80,16 @@ some_at o x y p q = some_is x y (sym p ∙ q)
 other_key : (a b : LineKey) → (a ≡ b → ⊥) → same line_before a b ≡ false
 other_key a b ne = ⊎_elim (λ t. absurd (ne (same_is line_before line_key line_lawful a b t))) (λ f. f) (cases_Bool (same line_before a b))
 
-module _ (station : List ℕ) (r : Record) (p : ℕ) (xs ys : List Line) (a : Added station r p xs ys) (no_station : is_at station no_call ≡ false) where
-  visit_more : visits station (take (p + 1) r.calls) ≡ cond (is_at station (call_at r p)) (visits station (take p r.calls) + 1) (visits station (take p r.calls))
-  visit_more = ap (λ n. visits station (take n r.calls)) (add-one p) ∙ visits_more station r.calls p no_station
+module _ (station : List ℕ) (r : Record) (p : ℕ) (xs ys : List Line) (a : Added station r p xs ys) where
+  visit_more : visits station (take (p + 1) r.calls) ≡ cond (calls_there station (slice_get r.calls p)) (visits station (take p r.calls) + 1) (visits station (take p r.calls))
+  visit_more = ap (λ n. visits station (take n r.calls)) (add-one p) ∙ visits_more station r.calls p
 
   visit_least : visits station (take p r.calls) ≤ visits station (take (p + 1) r.calls)
   visit_least =
       ⊎_elim
-      (λ t. omega (arith, visit_more ∙ cond-true (is_at station (call_at r p)) _ _ t))
-      (λ f. omega (arith, visit_more ∙ cond-false (is_at station (call_at r p)) _ _ f))
-      (cases_Bool (is_at station (call_at r p)))
+      (λ t. omega (arith, visit_more ∙ cond-true (calls_there station (slice_get r.calls p)) _ _ t))
+      (λ f. omega (arith, visit_more ∙ cond-false (calls_there station (slice_get r.calls p)) _ _ f))
+      (cases_Bool (calls_there station (slice_get r.calls p)))
 
   -- a call without a line adds none
   pub added_skip : None ≡ line_at station r p → Added station r (p + 1) xs ys
@@ -149,7 +153,7 @@ module _ (station : List ℕ) (r : Record) (p : ℕ) (xs ys : List Line) (a : Ad
       few =
           let f = a.few in
           let n = length_push ys x in
-          let v = visit_more ∙ cond-true (is_at station (call_at r p)) _ _ here.at in
+          let v = visit_more ∙ cond-true (calls_there station (slice_get r.calls p)) _ _ here.at in
           omega arith;
       distinct = λ d. apart_push line_before line_key line_lawful ys x absent (a.distinct d);
     }
@@ -168,9 +172,9 @@ two_visits t cs few = ⊎_elim (λ h. h) (λ none. omega arith) (look cs few)
         (cases_Bool (is_at t d))
 
 -- a line that is pushed is there
-pub added_push : (station : List ℕ) (r : Record) (p : ℕ) (xs ys zs : List Line) (x : Line) → Added station r p xs ys → is_at station no_call ≡ false → Some x ≡ line_at station r p → ((l : Line) → On xs l → l.key.uid ≡ r.key.uid → ⊥) → zs ≡ ys ++ x ∷ [] → Added station r (p + 1) xs zs
-added_push station r p xs ys zs x a no_station line fresh pushed =
-    subst (λ (v : List Line). Added station r (p + 1) xs v) (sym pushed) (added_line station r p xs ys a no_station x line fresh)
+pub added_push : (station : List ℕ) (r : Record) (p : ℕ) (xs ys zs : List Line) (x : Line) → Added station r p xs ys → Some x ≡ line_at station r p → ((l : Line) → On xs l → l.key.uid ≡ r.key.uid → ⊥) → zs ≡ ys ++ x ∷ [] → Added station r (p + 1) xs zs
+added_push station r p xs ys zs x a line fresh pushed =
+    subst (λ (v : List Line). Added station r (p + 1) xs v) (sym pushed) (added_line station r p xs ys a x line fresh)
 
 -- more calls have no fewer visits
 visits_mono : (t : List ℕ) (cs : List Location) (a b : ℕ) → a ≤ b → visits t (take a cs) ≤ visits t (take b cs)
@@ -184,9 +188,9 @@ visits_mono t (c ∷ cs) (suc a) (suc b) l =
     ⊎_elim (λ (u : is_at t c ≡ true). rw u (omega arith)) (λ (u : is_at t c ≡ false). rw u rest) (cases_Bool (is_at t c))
 
 -- there is room for the line of one call more
-pub room_for : (station : List ℕ) (r : Record) (p n q : ℕ) (xs ys : List Line) → Added station r p xs ys → is_at station no_call ≡ false → p < q → length xs + visits station (take q r.calls) ≤ n → is_at station (call_at r p) ≡ true → length ys < n
-room_for station r p n q xs ys a no_station l fits at =
+pub room_for : (station : List ℕ) (r : Record) (p n q : ℕ) (xs ys : List Line) → Added station r p xs ys → p < q → length xs + visits station (take q r.calls) ≤ n → calls_there station (slice_get r.calls p) ≡ true → length ys < n
+room_for station r p n q xs ys a l fits at =
     let f = a.few in
-    let v = ap (λ k. visits station (take k r.calls)) (add-one p) ∙ (visits_more station r.calls p no_station ∙ cond-true (is_at station (call_at r p)) _ _ at) in
+    let v = ap (λ k. visits station (take k r.calls)) (add-one p) ∙ (visits_more station r.calls p ∙ cond-true (calls_there station (slice_get r.calls p)) _ _ at) in
     let m = visits_mono station r.calls (p + 1) q (omega arith) in
     omega arith

@@ -10,7 +10,8 @@ use Rattle.schedule.specs.Keys.{key_before}
 use Rattle.schedule.specs.Records.{key_of}
 use Rattle.timetable.specs.Timetables.{not_before, IsMap}
 use Rattle.timetable.proofs.Nexts.{next, all_before, left, walk_falls}
-use Rattle.running.specs.Running.{Holds, first_of, IsFirst}
+use Rattle.running.specs.Running.{Holds}
+use Rattle.running.specs.Walking.{first_of, IsFirst}
 use Rattle.running.proofs.Forces.{none_some}
 use Rattle.running.proofs.Trains.{own, first_there, left_all, still_next}
 use Rattle.running.proofs.Walks.{held_has}

@@ -4,18 +4,13 @@ use Rattle.std.proofs.lemmas.Bool.{and_parts, leb-true, both_ways}
 use Rattle.forms.specs.declared.letters.Stp.{Stp}
 use Rattle.forms.specs.declared.letters.Stp.TheVariants.{Cancellation, ShortTerm, Overlay, Permanent}
 use Rattle.schedule.specs.declared.record.Record.{Record}
-use Rattle.schedule.specs.Records.{is_at, visits, kept_calls, few_visits, in_range, is_cancellation, is_schedule}
+use Rattle.schedule.specs.Records.{visits, kept_calls, few_visits, in_range, is_cancellation, is_schedule}
 use Rattle.running.specs.Running.{InForce}
 use Rattle.running.proofs.Forces.{one, alone, none_some}
 use Rattle.board.specs.declared.line.Line.{Line}
-use Rattle.board.specs.Lines.{no_call, line_at, IsLine, LinesOfTrainAlone, InForceHides, CancelledHides}
+use Rattle.board.specs.Lines.{line_at, IsLine, LinesOfTrainAlone, InForceHides, CancelledHides}
 use Rattle.board.specs.Filling.{Added, Trained}
 use Rattle.board.proofs.Adds.{line_here, two_visits}
-
--- seven bytes are not the blank of no call
-pub no_station : (station : List ℕ) → length station ≡ 7 → is_at station no_call ≡ false
-no_station [] l = absurd (let z : ◌≡◌ {A = ℕ} 0 7 = l in omega arith)
-no_station (c ∷ cs) l = refl
 
 pub runs_if : (s : Stp) → (s ≡ Cancellation → ⊥) → is_cancellation s ≡ false
 runs_if Cancellation no-c = absurd (no-c refl)

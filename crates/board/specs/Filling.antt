@@ -1,14 +1,21 @@
--- How a board's lines are filled in, call by call and train by train, in any order.
-use Rattle.std.specs.Prelude.{◌≡◌, ℕ, ◌+◌, ◌<◌, ◌≤◌, true, ◌⊎◌, List, length, take, Some, None, Option, ◌≢◌}
+-- How a board's lines are filled in, call by call and train by train, in any order. It serves the proof of the filling alone: nobody
+-- needs it to believe which lines stand on a board.
+use Rattle.std.specs.Prelude.{◌≡◌, ℕ, ◌+◌, ◌<◌, ◌≤◌, Bool, true, false, ◌⊎◌, List, length, take, Some, None, Option, ◌≢◌}
+use Rattle.cif.specs.declared.content.Location.{Location}
 use Rattle.maps.specs.Maps.{apart}
 use Rattle.ordered.specs.declared.slots.Slots.{Slots}
 use Rattle.ordered.specs.Tables.{RestKept}
 use Rattle.schedule.specs.declared.key.Key.{Key}
 use Rattle.schedule.specs.declared.record.Record.{Record}
-use Rattle.schedule.specs.Records.{visits}
-use Rattle.running.specs.Running.{IsFirst}
+use Rattle.schedule.specs.Records.{is_at, visits}
+use Rattle.running.specs.Walking.{IsFirst}
 use Rattle.board.specs.declared.line.Line.{Line}
 use Rattle.board.specs.Lines.{line_before, line_key, On, line_at, IsLine}
+
+-- whether there is a call and it is at the station
+abbrev pub calls_there : List ℕ → Option Location → Bool
+calls_there station (Some call) = is_at station call
+calls_there station None = false
 
 -- the lines of xs, and those of the first p calls of a schedule, and no other
 pub record Added (station : List ℕ) (r : Record) (p : ℕ) (xs ys : List Line) : Type 0 where

@@ -1,4 +1,5 @@
 pub mod Lines
+pub mod Boards
 pub mod Filling
 pub mod Turning
 pub mod Strikes

@@ -1,5 +1,5 @@
 -- Which lines stand on a board.
-use Rattle.std.specs.Prelude.{◌≡◌, ℕ, ◌<◌, Bool, true, false, cond, ◌&&◌, ◌||◌, List, [], Some, None, Option, ◌==◌, nat_lt, slice_index_or}
+use Rattle.std.specs.Prelude.{◌≡◌, ℕ, ◌<◌, Bool, true, false, cond, ◌&&◌, ◌||◌, List, [], Some, None, Option, option_and_then, ◌==◌, nat_lt, slice_get}
 use Rattle.cif.specs.declared.content.Location.{Location}
 use Rattle.maps.specs.Maps.{ascending, lookup}
 use Rattle.schedule.specs.declared.key.Key.{Key}
@@ -25,29 +25,25 @@ line_key l = l.key
 abbrev pub On : List Line → Line → Type 0
 On lines l = lookup line_before line_key lines (line_key l) ≡ Some l
 
--- what a read past the calls gives
-abbrev pub no_call : Location
-no_call = record { tiploc = []; suffix = 0; arrival = None; departure = None; platform = [] }
-
--- the call at a place, counted from 0
-abbrev pub call_at : Record → ℕ → Location
-call_at r place = slice_index_or r.calls place no_call
-
 -- the line of a call that departs at a minute
-abbrev pub departing : Record → ℕ → Option ℕ → Option Line
-departing r place (Some minute) =
+abbrev pub departing : Record → ℕ → Location → Option ℕ → Option Line
+departing r place call (Some minute) =
     Some (record {
       key = record { minute = minute; uid = r.key.uid; place = place };
-      platform = (call_at r place).platform;
+      platform = call.platform;
       destination = r.destination;
       train = r.train;
       operator = r.operator;
     })
-departing r place None = None
+departing r place call None = None
 
--- the line of the call at a place: there is one where the call is at the station, suffix disregarded, and has a public departure
+-- the line of a call: there is one where the call is at the station, suffix disregarded, and has a public departure
+abbrev pub line_of : List ℕ → Record → ℕ → Location → Option Line
+line_of station r place call = cond (is_at station call) (departing r place call call.departure) None
+
+-- the line of the call at a place counted from 0, if there is such a call and it has one
 abbrev pub line_at : List ℕ → Record → ℕ → Option Line
-line_at station r place = cond (is_at station (call_at r place)) (departing r place (call_at r place).departure) None
+line_at station r place = option_and_then (line_of station r place) (slice_get r.calls place)
 
 -- a line is one of a kept call of the schedule in force of its train, which is no cancellation
 pub record IsLine (m : List Record) (station : List ℕ) (day : ℕ) (l : Line) : Type 0 where

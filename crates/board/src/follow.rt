@@ -1,7 +1,7 @@
 // A board that follows a store.
-ghost use Rattle.std.specs.Prelude.{◌≡◌, ◌*◌, ◌≤◌, Bool, true, false, length, is_ok};
+ghost use Rattle.std.specs.Prelude.{◌≡◌, ◌*◌, ◌≤◌, length, OnOk, OnErr};
 ghost use Rattle.cif.specs.Refusals.{uppermost, fault_of};
-ghost use Rattle.ordered.specs.Tables.{items, room, RestKept};
+ghost use Rattle.board.specs.Boards.{shown_of, lines_of, slots_of, SlotsKept};
 ghost use Rattle.board.specs.Lines.{LinesFor};
 ghost use Rattle.board.specs.Turning.{slot_lines};
 
@@ -12,10 +12,13 @@ use ordered::mapped::Mapped;
 use timetable::{Store, Timetable};
 
 impl Board<'_> {
-    // Whether there are line slots enough for a store: twice as many as its capacity.
+    /// Whether there are line slots enough for a store: twice as many as its capacity. Otherwise it is refused with 15.
     pub fn suits<S: Store>(&mut self, store: &mut S) -> Result<(), ColumnFault>
-        ensures told { fault_of result ≡ uppermost (slot_lines (room self.old.lines.inner) (S.meaning store.old).capacity) }
-        ensures enough { is_ok result ≡ true → 2 * length (S.meaning store.old).map ≤ room self.old.lines.inner }
+        ensures told {
+            fault_of result
+            ≡ uppermost (slot_lines (slots_of self.old) (S.meaning store.old).capacity)
+        }
+        ensures enough { OnOk result (2 * length (S.meaning store.old).map ≤ slots_of self.old) }
         ensures same { self.new ≡ self.old }
         ensures store { store.new ≡ store.old }
     {
@@ -25,14 +28,19 @@ impl Board<'_> {
         Ok(())
     }
 
-    // Sets the lines to those that the store's map gives for the board's station and day. Without a station there are none.
+    /// Sets the lines to those that the store's map gives for the board's station and day. Without a station there are none.
+    /// A board with too few line slots is refused with 15.
     pub fn follow<S: Store>(&mut self, store: &mut S) -> Result<(), ColumnFault>
-        ensures told { fault_of result ≡ uppermost (slot_lines (room self.old.lines.inner) (S.meaning store.old).capacity) }
-        ensures lines { is_ok result ≡ true → LinesFor (S.meaning store.old).map self.old.shown (items self.new.lines.inner) }
-        ensures shown { self.new.shown ≡ self.old.shown }
-        ensures slots { room self.new.lines.inner ≡ room self.old.lines.inner }
-        ensures rest { RestKept self.old.lines.inner self.new.lines.inner }
-        ensures unchanged { is_ok result ≡ false → self.new ≡ self.old }
+        ensures told {
+            fault_of result
+            ≡ uppermost (slot_lines (slots_of self.old) (S.meaning store.old).capacity)
+        }
+        ensures lines {
+            OnOk result (LinesFor (S.meaning store.old).map (shown_of self.old) (lines_of self.new))
+        }
+        ensures shown { shown_of self.new ≡ shown_of self.old }
+        ensures slots { SlotsKept self.old self.new }
+        ensures unchanged { OnErr result (self.new ≡ self.old) }
         ensures same { store.new ≡ store.old }
     {
         self.suits(store)?;

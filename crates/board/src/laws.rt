@@ -2,37 +2,32 @@
 ghost use Rattle.board.specs.Lines.{BoardIsOne, LinesOfTrainAlone, InForceHides, CancelledHides};
 ghost use Rattle.board.specs.Strikes.{UnnamedLinesStay};
 
-// The rules of a board leave no choice of its lines.
-pub fn board_is_one() -> u8
+/// The rules of a board leave no choice of its lines.
+pub fn board_is_one()
     ensures { BoardIsOne }
 {
-    0
 }
 
-// The lines of a train depend on the schedules of that train alone.
-pub fn lines_of_train_alone() -> u8
+/// The lines of a train depend on the schedules of that train alone.
+pub fn lines_of_train_alone()
     ensures { LinesOfTrainAlone }
 {
-    0
 }
 
-// An overlay in force with no public departure at a station leaves its train without lines there.
-pub fn in_force_hides() -> u8
+/// An overlay in force with no public departure at a station leaves its train without lines there.
+pub fn in_force_hides()
     ensures { InForceHides }
 {
-    0
 }
 
-// A train whose schedule in force is a cancellation has no lines.
-pub fn cancelled_hides() -> u8
+/// A train whose schedule in force is a cancellation has no lines.
+pub fn cancelled_hides()
     ensures { CancelledHides }
 {
-    0
 }
 
-// Where two maps differ in the schedules of some trains only, their boards differ in the lines of these trains only.
-pub fn unnamed_lines_stay() -> u8
+/// Where two maps differ in the schedules of some trains only, their boards differ in the lines of these trains only.
+pub fn unnamed_lines_stay()
     ensures { UnnamedLinesStay }
 {
-    0
 }

@@ -1,6 +1,6 @@
 // A line of a departure board.
 
-// Where a line stands: departure minute, UID number, and the call's place among the kept calls from 0.
+/// Where a line stands: departure minute, UID number, and the call's place among the kept calls from 0.
 #[derive(Clone, Copy, Debug, PartialEq, Eq, PartialOrd, Ord)]
 pub struct LineKey {
     pub minute: u16,

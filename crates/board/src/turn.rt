@@ -1,8 +1,7 @@
 // What a board can be asked to do.
-ghost use Rattle.std.specs.Prelude.{◌≡◌, ℕ, ◌*◌, ◌<◌, ◌≤◌, Bool, true, false, List, [], length, is_ok, Some, None, MatchOption, slice_get, slice_index_or};
+ghost use Rattle.std.specs.Prelude.{◌≡◌, ◌*◌, ◌≤◌, [], length, Some, None, OnOk, OnErr, slice_get};
 ghost use Rattle.cif.specs.Refusals.{uppermost, fault_of};
-ghost use Rattle.ordered.specs.Tables.{items, room, RestKept};
-ghost use Rattle.board.specs.declared.line.Line.{Line};
+ghost use Rattle.board.specs.Boards.{shown_of, lines_of, slots_of, SlotsKept};
 ghost use Rattle.board.specs.Lines.{BoardOf};
 ghost use Rattle.board.specs.Turning.{shown_for, turn_lines};
 
@@ -30,47 +29,56 @@ impl StationDay {
 }
 
 impl Board<'_> {
-    // A board with no station and no lines.
+    /// A board over line slots, with no station and no lines.
     pub fn new<'b>(slots: &'b mut [Line]) -> Board<'b>
-        ensures shown { result.shown ≡ None }
-        ensures lines { items result.lines.inner ≡ [] }
-        ensures slots { room result.lines.inner ≡ length slots.old }
+        ensures shown { shown_of result ≡ None }
+        ensures lines { lines_of result ≡ [] }
+        ensures slots { slots_of result ≡ length slots.old }
     {
         let lines = Ordered::new(slots);
         Board { lines, shown: None }
     }
 
-    // How many lines it shows.
+    /// How many lines it shows.
     pub fn len(&mut self) -> usize
-        ensures value { result ≡ length (items self.old.lines.inner) }
+        ensures value { result ≡ length (lines_of self.old) }
         ensures same { self.new ≡ self.old }
     {
         self.lines.len()
     }
 
-    // The line at a place counted from 0.
+    /// The line at a place counted from 0, or none past the lines.
     pub fn tell(&mut self, place: usize) -> Option<Line>
-        ensures value { result ≡ slice_get (items self.old.lines.inner) place }
-        ensures line { MatchOption result (length (items self.old.lines.inner) ≤ place) (λ l. (place < length (items self.old.lines.inner)) × ((d : Line) → l ≡ slice_index_or (items self.old.lines.inner) place d)) }
+        ensures value { result ≡ slice_get (lines_of self.old) place }
         ensures same { self.new ≡ self.old }
     {
         self.lines.nth(place)
     }
 
-    // Sets the station and day, and the lines to those that the store's map gives for them.
+    /// Sets the station, a seven-byte TIPLOC, and the day, a day number up to 36,524, and the lines to those that the store's map
+    /// gives for them. Anything else is refused with 14, and a board with fewer line slots than twice the capacity with 15.
     pub fn turn<S: Store>(
         &mut self,
         store: &mut S,
         station: &[u8],
         day: u32,
     ) -> Result<(), ColumnFault>
-        ensures told { fault_of result ≡ uppermost (turn_lines station.now day (room self.old.lines.inner) (S.meaning store.old).capacity) }
-        ensures board { is_ok result ≡ true → BoardOf (S.meaning store.old).map station.now day (items self.new.lines.inner) }
-        ensures few { is_ok result ≡ true → length (items self.new.lines.inner) ≤ 2 * length (S.meaning store.old).map }
-        ensures set { is_ok result ≡ true → self.new.shown ≡ Some (record { station = station.now; day = day }) }
-        ensures slots { room self.new.lines.inner ≡ room self.old.lines.inner }
-        ensures rest { RestKept self.old.lines.inner self.new.lines.inner }
-        ensures unchanged { is_ok result ≡ false → self.new ≡ self.old }
+        ensures told {
+            fault_of result
+            ≡ uppermost
+                (turn_lines station.now day (slots_of self.old) (S.meaning store.old).capacity)
+        }
+        ensures board {
+            OnOk result (BoardOf (S.meaning store.old).map station.now day (lines_of self.new))
+        }
+        ensures few {
+            OnOk result (length (lines_of self.new) ≤ 2 * length (S.meaning store.old).map)
+        }
+        ensures set {
+            OnOk result (shown_of self.new ≡ Some (record { station = station.now; day = day }))
+        }
+        ensures slots { SlotsKept self.old self.new }
+        ensures unchanged { OnErr result (self.new ≡ self.old) }
         ensures same { store.new ≡ store.old }
     {
         let shown = StationDay::asked(station, day).ok_or(Refusal::NoSuchBoard.at(0))?;

@@ -12,16 +12,16 @@ use Rattle.cif.specs.Rows.{whole_in}
 use Rattle.cif.specs.Fields.{header_in, schedule_in, operator_in, origin_in, intermediate_in, terminus_in}
 use Rattle.cif.specs.Reading.{letters_in, blanks, content_in}
 use Rattle.cif.proofs.Results.{ok_is, err_ok}
-use Rattle.schedule.specs.Transactions.{every_lawful}
-use Rattle.timetable.specs.Timetables.{IsMap}
+use Rattle.schedule.specs.Transactions.{is_lawful, every_lawful}
+use Rattle.timetable.specs.Timetables.{IsMap, IsWithinCapacity}
 use Rattle.extract.specs.declared.stage.Stage.{Stage}
 use Rattle.extract.specs.Stages.{next_stage}
 use Rattle.extract.specs.Progress.{Progress, identity_for, after, after_row, idle}
 use Rattle.extract.specs.Judging.{Standing, admitted, taken_unless, is_misplaced, is_no_opening, content_lines}
 use Rattle.controller.specs.Calls.{heard_by}
-use Rattle.controller.specs.Agreeing.{Fits, Agrees}
+use Rattle.controller.specs.Agreeing.{Agrees}
 use Rattle.controller.proofs.Heard.{heard_after}
-use Rattle.controller.proofs.Fitting.{is_sound, fits_after}
+use Rattle.controller.proofs.Fitting.{is_sound, MayGoOn, may_after}
 
 -- what a row of an identity can hold
 abbrev Sound : Identity → Content → Type 0
@@ -58,16 +58,20 @@ row_places st i h = grind (arith, nat_tests)
 pub opening_places : Places is_no_opening
 opening_places st i h = grind (arith, nat_tests)
 
-module _ (misplaced : Stage → Identity → Bool) (places : Places misplaced) (s : Standing) (row : List ℕ) (p : Progress) (is : IsMap s.map) (lawful : every_lawful s.extract.changes ≡ true) (fits : Fits s.map s.capacity s.extract) where
+module _ (misplaced : Stage → Identity → Bool) (places : Places misplaced) (s : Standing) (row : List ℕ) (p : Progress) (is : IsMap s.store.map) (within : IsWithinCapacity s.store) (may : MayGoOn s.store s.extract)
+    (draft : is_lawful p.draft ≡ true) (lawful : every_lawful p.changes ≡ true) where
   abbrev Goal : Type 0
-  Goal = Fits s.map s.capacity p
+  Goal = MayGoOn s.store p
 
-  heard_fits : heard_by misplaced s row ≡ Ok p → Goal
-  heard_fits h = at (whole_in row) h
+  heard_may : heard_by misplaced s row ≡ Ok p → Goal
+  heard_may h = at (whole_in row) h
     where
       judge : (i : Identity) (c : Content) → Sound i c → missing (next_stage s.extract.stage i false) ≡ false → (o : Option ColumnFault) → uppermost (content_lines s c) ≡ o → raised (in_row (letters_in row)) (elim o [ Some f ↦ Err f | None ↦ Ok (after s.extract c) ]) ≡ Ok p → Goal
       judge i c sound taken (Some f) e h = err_ok _ p _ refl h
-      judge i c sound taken None e h = subst (λ (q : Progress). Fits s.map s.capacity q) (ok_is _ (after s.extract c) p refl h) (fits_after s is lawful fits c sound.1 (ap (λ j. missing (next_stage s.extract.stage j false)) sound.0 ∙ taken) e)
+      judge i c sound taken None e h =
+          let same : after s.extract c ≡ p = ok_is _ (after s.extract c) p refl h in
+          subst (λ (q : Progress). MayGoOn s.store q) same
+          (may_after s is within may c sound.1 (ap (λ (q : Progress). is_lawful q.draft) same ∙ draft) (ap (λ (q : Progress). every_lawful q.changes) same ∙ lawful) (ap (λ j. missing (next_stage s.extract.stage j false)) sound.0 ∙ taken) e)
 
       content : (i : Identity) → missing (next_stage s.extract.stage i false) ≡ false → (r : Result Content ColumnFault) → content_in i row ≡ r → raised (in_row (letters_in row)) (then r (λ c. admitted s c)) ≡ Ok p → Goal
       content i taken (Err e) q h = err_ok _ p _ refl h
@@ -82,9 +86,13 @@ module _ (misplaced : Stage → Identity → Bool) (places : Places misplaced) (
       at (Ok i) h = place i (misplaced s.extract.stage i) refl h
 
 -- one row more
-pub agrees_more : (misplaced : Stage → Identity → Bool) → Places misplaced → (s : Standing) (row : List ℕ) (p : Progress) (rows : List (List ℕ)) → every_lawful s.extract.changes ≡ true → heard_by misplaced s row ≡ Ok p → Agrees s.map s.capacity rows s.extract → Agrees s.map s.capacity (rows ++ row ∷ []) p
-agrees_more misplaced places s row p rows lawful h a = record {
-  is_map = a.is_map;
-  progress = heard_after misplaced s row p h ∙ (ap (λ q. after_row q row) a.progress ∙ sym (fold_push after_row idle rows row));
-  fits = heard_fits misplaced places s row p a.is_map lawful a.fits h;
-}
+pub agrees_more : (misplaced : Stage → Identity → Bool) → Places misplaced → (s : Standing) (row : List ℕ) (p : Progress) (rows : List (List ℕ)) → is_lawful p.draft ≡ true → every_lawful p.changes ≡ true → heard_by misplaced s row ≡ Ok p → Agrees s.store rows s.extract → Agrees s.store (rows ++ row ∷ []) p
+agrees_more misplaced places s row p rows draft lawful h a =
+    let may = heard_may misplaced places s row p a.is_map a.within (record { pending = a.pending; reading = a.reading }) draft lawful h in
+    record {
+      is_map = a.is_map;
+      within = a.within;
+      progress = heard_after misplaced s row p h ∙ (ap (λ q. after_row q row) a.progress ∙ sym (fold_push after_row idle rows row));
+      pending = may.pending;
+      reading = may.reading;
+    }

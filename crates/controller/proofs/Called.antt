@@ -1,23 +1,22 @@
 -- What a call tells and leaves, from what was heard.
-use Rattle.std.proofs.Common.{◌≡◌, ℕ, ◌+◌, ◌≤◌, true, List, [], length, is_ok, Some, None, Ok, Err, Option, Result, sym, refl, ap, ◌∙◌, subst, arith}
+use Rattle.std.proofs.Common.{◌≡◌, ◌+◌, ℕ, true, false, List, [], is_ok, Some, None, Ok, Err, Option, Result, OnOk, OnErr, sym, refl, ap, ◌∙◌, subst}
 use Rattle.std.specs.Option.{option_map}
-use Rattle.std.proofs.lemmas.List.{take_all}
 use Rattle.std.proofs.lemmas.Bool.{true≢false}
 use Rattle.cif.specs.declared.refusal.ColumnFault.{ColumnFault}
 use Rattle.cif.specs.declared.refusal.RowFault.{RowFault}
 use Rattle.cif.specs.Refusals.{uppermost, raised, fault_of, in_row}
 use Rattle.cif.specs.Reading.{told_in, blanks}
 use Rattle.cif.proofs.Tables.{raised_told}
-use Rattle.schedule.specs.declared.record.Record.{Record}
-use Rattle.schedule.specs.declared.transaction.Change.{Change}
-use Rattle.timetable.specs.Timetables.{IsMap}
-use Rattle.overlay.specs.Overlays.{done_all}
+use Rattle.schedule.specs.declared.transaction.Transaction.{Transaction}
+use Rattle.schedule.specs.declared.transaction.Transaction.TheVariants.{New as IsNew, Revise as IsRevised, Delete as IsDeleted}
+use Rattle.schedule.specs.Transactions.{plain_of, is_lawful}
+use Rattle.timetable.specs.Timetables.{Meaning, IsMap, IsWithinCapacity}
 use Rattle.extract.specs.Progress.{Progress, idle}
 use Rattle.extract.specs.Judging.{Standing, is_misplaced, is_no_opening, Told}
 use Rattle.controller.specs.declared.fault.ExtractFault.{ExtractFault}
 use Rattle.controller.specs.Faults.{in_extract}
 use Rattle.controller.specs.Calls.{Open, Row, refusals, refusal_of, heard_by}
-use Rattle.controller.specs.Agreeing.{Fits, Agrees}
+use Rattle.controller.specs.Agreeing.{Agrees}
 use Rattle.controller.proofs.Heard.{heard_told}
 
 pub ok_raised : {X E F : Type 0} (f : E → F) (r : Result X E) → is_ok (raised f r) ≡ is_ok r
@@ -53,18 +52,41 @@ module _ (s : Standing) (row : List ℕ) (p : Progress) (r : Result (Unit {0}) R
   pub was_ok : is_ok out ≡ true → is_ok r ≡ true
   was_ok h = sym same_ok ∙ h
 
--- nothing is pending when idle, so it fits
-pub idle_agrees : (m : List Record) (capacity : ℕ) (p : Progress) → p ≡ idle → IsMap m → length m ≤ capacity → Agrees m capacity [] p
-idle_agrees m capacity p e is l = record {
+-- nothing is pending when idle
+pub idle_agrees : (store : Meaning) (p : Progress) → p ≡ idle → IsMap store.map → IsWithinCapacity store → Agrees store [] p
+idle_agrees store p e is within = subst (λ (q : Progress). Agrees store [] q) (sym e) (record {
   is_map = is;
-  progress = e;
-  fits = subst (λ (q : Progress). Fits m capacity q) (sym e) (record {
-    pending = λ k. subst (λ (xs : List Change). length (done_all m xs) ≤ capacity) (sym (take_all k [] (omega arith))) l;
-    reading = λ h. absurd (true≢false (sym h));
-  });
-}
+  within = within;
+  progress = refl;
+  pending = tt;
+  reading = λ h. absurd (true≢false (sym h));
+})
 
 -- a fault of a call that has no row
 module _ {X : Type 0} (r : Result X ColumnFault) (out : Result X ExtractFault) (e : out ≡ raised (in_extract 0) (raised (in_row blanks) r)) where
   pub no_row_ok : is_ok out ≡ is_ok r
   no_row_ok = ap is_ok e ∙ (ok_raised (in_extract 0) (raised (in_row blanks) r) ∙ ok_raised (in_row blanks) r)
+
+-- what holds where a call was done, by a test of its result
+pub on_ok : {X E : Type 0} (P : Type 0) (r : Result X E) → (is_ok r ≡ true → P) → OnOk r P
+on_ok P (Ok x) f = f refl
+on_ok P (Err e) f = tt
+
+pub at_ok : {X E : Type 0} (P : Type 0) (r : Result X E) → OnOk r P → is_ok r ≡ true → P
+at_ok P (Ok x) h e = h
+at_ok P (Err f) h e = absurd (true≢false (sym e))
+
+-- and where it was refused
+pub on_err : {X E : Type 0} (P : Type 0) (r : Result X E) → (is_ok r ≡ false → P) → OnErr r P
+on_err P (Ok x) f = tt
+on_err P (Err e) f = f refl
+
+pub at_err : {X E : Type 0} (P : Type 0) (r : Result X E) → OnErr r P → is_ok r ≡ false → P
+at_err P (Ok x) h e = absurd (true≢false e)
+at_err P (Err f) h e = h
+
+-- a transaction is lawful, since the schedule that it brings is one
+pub transaction_lawful : (t : Transaction) → is_lawful (plain_of t) ≡ true
+transaction_lawful (IsNew s) = s.valid
+transaction_lawful (IsRevised s) = s.valid
+transaction_lawful (IsDeleted k) = refl

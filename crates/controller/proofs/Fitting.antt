@@ -1,7 +1,6 @@
--- What is pending fits the store, row by row.
-use Rattle.std.proofs.Common.{◌≡◌, ℕ, suc, ◌+◌, ◌≤◌, Bool, true, false, cond, not, ◌&&◌, ◌||◌, List, [], ◌∷◌, ◌++◌, length, take, None, unwrap_or, sym, refl, ap, ◌∙◌, subst, ⊎_elim, append-nil, arith}
-use Rattle.std.proofs.lemmas.List.{take_all, take-append-le, length_push}
-use Rattle.std.proofs.lemmas.Bool.{true≢false, eqb-false, cases_lt}
+-- What is pending may be done to the store, row by row.
+use Rattle.std.proofs.Common.{◌≡◌, ℕ, ◌+◌, ◌<◌, ◌≤◌, Bool, true, false, cond, not, ◌&&◌, ◌||◌, List, [], ◌∷◌, ◌++◌, length, None, unwrap_or, sym, refl, ap, ◌∙◌, subst, append-nil, arith}
+use Rattle.std.proofs.lemmas.Bool.{true≢false, not-false, eqb-false, and_parts}
 use Rattle.std.proofs.lemmas.Bool.Decides.{nat_tests}
 use Rattle.cif.specs.declared.content.BasicSchedule.{BasicSchedule}
 use Rattle.cif.specs.declared.content.Change.{Change as Asked}
@@ -9,45 +8,34 @@ use Rattle.cif.specs.declared.content.Change.TheVariants.{New as AsksNew, Revise
 use Rattle.cif.specs.declared.content.Location.{Location}
 use Rattle.cif.specs.declared.content.Content.{Content}
 use Rattle.cif.specs.declared.content.Content.TheVariants.{Header, Schedule, Operator, Origin, Intermediate, Terminus, Unread}
-use Rattle.cif.specs.declared.identity.Identity.{Identity}
 use Rattle.cif.specs.declared.identity.Identity.TheVariants.{Header as IsHeader, BasicSchedule as IsSchedule, BasicExtra as IsExtra, Origin as IsOrigin, Intermediate as IsIntermediate, Terminus as IsTerminus}
+use Rattle.cif.specs.declared.identity.Identity.{Identity}
 use Rattle.cif.specs.Refusals.{uppermost, missing}
-use Rattle.maps.proofs.Maps.{first, last, level, stand, some_none}
+use Rattle.maps.proofs.Maps.{some_none}
 use Rattle.schedule.specs.declared.record.Record.{Record}
 use Rattle.schedule.specs.declared.transaction.Change.{Change}
 use Rattle.schedule.specs.declared.transaction.Change.TheVariants.{New, Revise, Delete}
-use Rattle.schedule.specs.Keys.{key_before}
 use Rattle.schedule.specs.Records.{key_of}
 use Rattle.schedule.specs.Building.{with_operator, with_call, with_destination, bringing}
-use Rattle.schedule.specs.Transactions.{every_lawful}
-use Rattle.timetable.specs.Timetables.{with_schedule, IsMap}
-use Rattle.timetable.proofs.Valid.{key_lawful}
-use Rattle.overlay.specs.Overlays.{done_to, done_all}
-use Rattle.overlay.specs.Maps.{all_map}
-use Rattle.overlay.proofs.Dones.{done_push, done_count}
+use Rattle.schedule.specs.Transactions.{is_lawful, every_lawful}
+use Rattle.timetable.specs.Timetables.{Meaning, IsMap, IsWithinCapacity, is_full}
+use Rattle.timetable.specs.Laws.{has_key}
+use Rattle.overlay.specs.Overlays.{with_done}
+use Rattle.overlay.specs.Permitted.{MayBeDone, EachMayBeDone}
+use Rattle.overlay.proofs.Permitted.{each_push, each_within}
 use Rattle.extract.specs.declared.stage.Stage.{Stage}
 use Rattle.extract.specs.declared.stage.Stage.TheVariants.{Between}
 use Rattle.extract.specs.Stages.{next_stage, is_reading}
-use Rattle.extract.specs.Progress.{asked_by, is_brief, identity_for, after}
-use Rattle.extract.specs.Judging.{Standing, overlay_in, asks_new, is_there, is_full, past_rows, past_transactions, change_lines, content_lines}
-use Rattle.controller.specs.Agreeing.{Fits}
+use Rattle.extract.specs.Progress.{Progress, asked_by, is_brief, identity_for, after, ended_by}
+use Rattle.extract.specs.Judging.{Standing, overlay_in, asks_new, is_there, past_rows, past_transactions, change_lines, content_lines}
 use Rattle.controller.specs.Laws.{is_passing}
 use Rattle.controller.proofs.Stepping.{reads_on}
 
--- how many keys a map has with a schedule depends on its key alone
-same_length : (m : List Record) (x y : Record) → key_of x ≡ key_of y → length (with_schedule m x) ≡ length (with_schedule m y)
-same_length [] x y e = refl
-same_length (z ∷ zs) x y e =
-    elim (stand key_before key_of key_lawful (key_of z) (key_of x)) [
-      | first p r ↦ (let q : key_before (key_of z) (key_of y) ≡ true = ap (key_before (key_of z)) (sym e) ∙ p in rw (p, q) (ap suc (same_length zs x y e)))
-      | last p r ↦ (let q : key_before (key_of z) (key_of y) ≡ false = ap (key_before (key_of z)) (sym e) ∙ p in let t : key_before (key_of y) (key_of z) ≡ true = ap (λ k. key_before k (key_of z)) (sym e) ∙ r in rw (p, q, r, t) refl)
-      | level p r l ↦ (let q : key_before (key_of z) (key_of y) ≡ false = ap (key_before (key_of z)) (sym e) ∙ p in let t : key_before (key_of y) (key_of z) ≡ false = ap (λ k. key_before k (key_of z)) (sym e) ∙ r in rw (p, q, r, t) refl)
-    ]
-
-done_length : (m : List Record) (t : Change) (f : Record → Record) → ((r : Record) → key_of (f r) ≡ key_of r) → length (done_to m (bringing f t)) ≡ length (done_to m t)
-done_length m (New r) f same = same_length m (f r) r (same r)
-done_length m (Revise r) f same = same_length m (f r) r (same r)
-done_length m (Delete k) f same = refl
+-- whether a transaction may be done depends on the key of its schedule, which is one
+same_may : (t : Meaning) (c : Change) (f : Record → Record) → ((r : Record) → key_of (f r) ≡ key_of r) → is_lawful (bringing f c) ≡ true → MayBeDone t c → MayBeDone t (bringing f c)
+same_may t (New r) f same lawful h = (lawful, ap (has_key t.map) (same r) ∙ h.1, h.2)
+same_may t (Revise r) f same lawful h = (lawful, ap (has_key t.map) (same r) ∙ h.1)
+same_may t (Delete k) f same lawful h = h
 
 either_key : (b : Bool) (x y : Record) → key_of x ≡ key_of y → key_of (cond b x y) ≡ key_of y
 either_key true x y e = e
@@ -62,6 +50,17 @@ destination_key d r = either_key _ r _ refl
 call_key : (l : Location) (r : Record) → key_of (with_call r l) ≡ key_of r
 call_key l r = either_key _ _ r refl
 
+-- so it is with a transaction that its LT ends
+ended_may : (t : Meaning) (l : Location) (c : Change) → is_lawful (ended_by l c) ≡ true → MayBeDone t c → MayBeDone t (ended_by l c)
+ended_may t l (New r) lawful h = (lawful, ap (has_key t.map) (destination_key l.tiploc (with_call r l) ∙ call_key l r) ∙ h.1, h.2)
+ended_may t l (Revise r) lawful h = (lawful, ap (has_key t.map) (destination_key l.tiploc (with_call r l) ∙ call_key l r) ∙ h.1)
+ended_may t l (Delete k) lawful h = h
+
+-- the last of lawful transactions is lawful
+last_lawful : (cs : List Change) (c : Change) → every_lawful (cs ++ c ∷ []) ≡ true → is_lawful c ≡ true
+last_lawful [] c h = (and_parts (is_lawful c) true h).0
+last_lawful (d ∷ ds) c h = last_lawful ds c (and_parts (is_lawful d) (every_lawful (ds ++ c ∷ [])) h).1
+
 -- where no line of a BS holds
 no_line : (new there many full : Bool) → uppermost (change_lines new there many full) ≡ None → ((new && there) ≡ false) × ((not new && not there) ≡ false) × ((new && full) ≡ false)
 no_line true true many full h = absurd (some_none _ h)
@@ -73,80 +72,62 @@ no_line false false many full h = absurd (some_none _ h)
 
 -- what a row can hold: of a row of which nothing is read only that it passes
 abbrev pub is_sound : Content → Bool
-is_sound (Header h) = true
-is_sound (Schedule b) = true
-is_sound (Operator o) = true
-is_sound (Origin l) = true
-is_sound (Intermediate l) = true
-is_sound (Terminus l) = true
 is_sound (Unread i) = is_passing i
+is_sound _ = true
 
-module _ (s : Standing) (is : IsMap s.map) (lawful : every_lawful s.extract.changes ≡ true) (fits : Fits s.map s.capacity s.extract) where
+-- what an extract that agrees has pending and is reading may be done
+pub record MayGoOn (t : Meaning) (p : Progress) : Type 0 where
+  pub pending : EachMayBeDone t p.changes
+  pub reading : is_reading p.stage ≡ true → MayBeDone (with_done t p.changes) p.draft
+
+module _ (s : Standing) (is : IsMap s.store.map) (within : IsWithinCapacity s.store) (may : MayGoOn s.store s.extract) where
   abbrev cs : List Change
   cs = s.extract.changes
 
-  few : length (overlay_in s) ≤ s.capacity
-  few = subst (λ (xs : List Change). length (done_all s.map xs) ≤ s.capacity) (take_all (length cs) cs (omega arith)) (fits.pending (length cs))
+  few : length (overlay_in s).map ≤ s.store.capacity
+  few = each_within s.store cs is within may.pending
 
-  over : IsMap (overlay_in s)
-  over = all_map s.map cs is lawful
-
-  -- the transaction that a BS asks for fits, where no line holds
-  asked_fits : (b : BasicSchedule) → uppermost (content_lines s (Schedule b)) ≡ None → length (done_to (overlay_in s) (asked_by b b.change)) ≤ s.capacity
-  asked_fits b h =
-      let none = no_line (asks_new b.change) (is_there s b) (past_rows s (Schedule b) || past_transactions s (Schedule b)) (is_full s) h in
-      of b.change (is_there s b) refl (is_full s) refl none.0 none.1 none.2
+  -- the transaction that a BS asks for may be done, where no line holds
+  asked_may : (b : BasicSchedule) → is_lawful (asked_by b b.change) ≡ true → uppermost (content_lines s (Schedule b)) ≡ None → MayBeDone (overlay_in s) (asked_by b b.change)
+  asked_may b lawful h =
+      let none = no_line (asks_new b.change) (is_there s b) (past_rows s (Schedule b) || past_transactions s (Schedule b)) (is_full (overlay_in s)) h in
+      of b.change lawful none.0 none.1 none.2
     where
-      of : (c : Asked) (there : Bool) → there ≡ is_there s b → (full : Bool) → full ≡ is_full s
-          → (asks_new c && there) ≡ false → (not (asks_new c) && not there) ≡ false → (asks_new c && full) ≡ false
-          → length (done_to (overlay_in s) (asked_by b c)) ≤ s.capacity
-      of (AsksNew d) true e full f p q r = absurd (true≢false p)
-      of (AsksNew d) false e true f p q r = absurd (true≢false r)
-      of (AsksNew d) false e false f p q r = (let n = done_count (overlay_in s) (asked_by b (AsksNew d)) false over e in let l = few in let u = eqb-false (length (overlay_in s)) s.capacity (sym f) in omega arith)
-      of (AsksRevise d) true e full f p q r = (let n = done_count (overlay_in s) (asked_by b (AsksRevise d)) true over e in let l = few in omega arith)
-      of (AsksRevise d) false e full f p q r = absurd (true≢false q)
-      of AsksDelete true e full f p q r = (let n = done_count (overlay_in s) (asked_by b AsksDelete) true over e in let l = few in omega arith)
-      of AsksDelete false e full f p q r = absurd (true≢false q)
+      of : (c : Asked) → is_lawful (asked_by b c) ≡ true → (asks_new c && is_there s b) ≡ false → (not (asks_new c) && not (is_there s b)) ≡ false → (asks_new c && is_full (overlay_in s)) ≡ false
+          → MayBeDone (overlay_in s) (asked_by b c)
+      of (AsksNew d) l p q r = (l, p, (let u = eqb-false (length (overlay_in s).map) s.store.capacity r in let f = few in omega arith))
+      of (AsksRevise d) l p q r = (l, not-false (is_there s b) q)
+      of AsksDelete l p q r = not-false (is_there s b) q
 
-  -- one transaction more
-  pending_more : (t : Change) → length (done_to (overlay_in s) t) ≤ s.capacity → (k : ℕ) → length (done_all s.map (take k (cs ++ t ∷ []))) ≤ s.capacity
-  pending_more t l k =
-      ⊎_elim
-      (λ short. subst (λ (xs : List Change). length (done_all s.map xs) ≤ s.capacity) (sym (take_all k (cs ++ t ∷ []) (let n = length_push cs t in omega arith))) (subst (λ (m : List Record). length m ≤ s.capacity) (sym (done_push s.map cs t)) l))
-      (λ long. subst (λ (xs : List Change). length (done_all s.map xs) ≤ s.capacity) (sym (take-append-le k cs (t ∷ []) long)) (fits.pending k))
-      (cases_lt (length cs) k)
+  -- none more is pending
+  none_more : (draft : Change) → MayBeDone (overlay_in s) draft → MayBeDone (with_done s.store (cs ++ [])) draft
+  none_more draft h = subst (λ (xs : List Change). MayBeDone (with_done s.store xs) draft) (sym (append-nil cs)) h
 
-  -- and none more
-  pending_same : (k : ℕ) → length (done_all s.map (take k (cs ++ []))) ≤ s.capacity
-  pending_same k = subst (λ (xs : List Change). length (done_all s.map (take k xs)) ≤ s.capacity) (sym (append-nil cs)) (fits.pending k)
-
-  over_same : (P : List Record → Type 0) → P (overlay_in s) → P (done_all s.map (cs ++ []))
-  over_same P h = subst (λ (xs : List Change). P (done_all s.map xs)) (sym (append-nil cs)) h
+  same_pending : EachMayBeDone s.store (cs ++ [])
+  same_pending = subst (λ (xs : List Change). EachMayBeDone s.store xs) (sym (append-nil cs)) may.pending
 
   -- a row that neither begins nor ends a schedule
-  goes_on : (i : Identity) (n : ℕ) (current : List ℕ) (draft : Change) → missing (next_stage s.extract.stage i false) ≡ false → is_passing i ≡ true → length (done_to (overlay_in s) draft) ≡ length (done_to (overlay_in s) s.extract.draft)
-      → Fits s.map s.capacity (record { stage = unwrap_or (next_stage s.extract.stage i false) s.extract.stage; taken = n; current = current; draft = draft; changes = cs ++ [] })
-  goes_on i n current draft taken passing e = record {
-    pending = pending_same;
-    reading = λ r. over_same (λ m. length (done_to m draft) ≤ s.capacity) (let l = fits.reading (sym (reads_on s.extract.stage i taken passing) ∙ r) in omega arith);
+  goes_on : (i : Identity) (n : ℕ) (current : List ℕ) (draft : Change) → missing (next_stage s.extract.stage i false) ≡ false → is_passing i ≡ true → (MayBeDone (overlay_in s) s.extract.draft → MayBeDone (overlay_in s) draft)
+      → MayGoOn s.store (record { stage = unwrap_or (next_stage s.extract.stage i false) s.extract.stage; taken = n; current = current; draft = draft; changes = cs ++ [] })
+  goes_on i n current draft taken passing f = record {
+    pending = same_pending;
+    reading = λ r. none_more draft (f (may.reading (sym (reads_on s.extract.stage i taken passing) ∙ r)));
   }
 
   -- a BS that has no further rows, and one that has
-  begins : (b : BasicSchedule) (brief : Bool) → brief ≡ is_brief b → s.extract.stage ≡ Between → length (done_to (overlay_in s) (asked_by b b.change)) ≤ s.capacity
-      → Fits s.map s.capacity (record { stage = unwrap_or (next_stage s.extract.stage IsSchedule brief) s.extract.stage; taken = s.extract.taken + 1; current = s.extract.current; draft = cond brief s.extract.draft (asked_by b b.change); changes = cs ++ cond brief (asked_by b b.change ∷ []) [] })
-  begins b true e at l = record {
-    pending = pending_more (asked_by b b.change) l;
+  begins : (b : BasicSchedule) (brief : Bool) → brief ≡ is_brief b → s.extract.stage ≡ Between → MayBeDone (overlay_in s) (asked_by b b.change)
+      → MayGoOn s.store (record { stage = unwrap_or (next_stage s.extract.stage IsSchedule brief) s.extract.stage; taken = s.extract.taken + 1; current = s.extract.current; draft = cond brief s.extract.draft (asked_by b b.change); changes = cs ++ cond brief (asked_by b b.change ∷ []) [] })
+  begins b true e at h = record {
+    pending = each_push s.store cs (asked_by b b.change) may.pending h;
     reading = λ r. absurd (true≢false (sym (sym (ap (λ x. is_reading (unwrap_or (next_stage x IsSchedule true) x)) at) ∙ r)));
   }
-  begins b false e at l = record {
-    pending = pending_same;
-    reading = λ r. over_same (λ m. length (done_to m (asked_by b b.change)) ≤ s.capacity) l;
-  }
+  begins b false e at h = record { pending = same_pending; reading = λ r. none_more (asked_by b b.change) h }
 
   -- an LT
-  ends : (l : Location) → is_reading s.extract.stage ≡ true → unwrap_or (next_stage s.extract.stage IsTerminus false) s.extract.stage ≡ Between → Fits s.map s.capacity (after s.extract (Terminus l))
-  ends l reading next = record {
-    pending = pending_more _ (let n = done_length (overlay_in s) (bringing (λ r. with_call r l) s.extract.draft) (λ r. with_destination r l.tiploc) (destination_key l.tiploc) in let m = done_length (overlay_in s) s.extract.draft (λ r. with_call r l) (call_key l) in let u = fits.reading reading in omega arith);
+  ends : (l : Location) → is_lawful (ended_by l s.extract.draft) ≡ true
+      → is_reading s.extract.stage ≡ true → unwrap_or (next_stage s.extract.stage IsTerminus false) s.extract.stage ≡ Between → MayGoOn s.store (after s.extract (Terminus l))
+  ends l lawful reading next = record {
+    pending = each_push s.store cs (ended_by l s.extract.draft) may.pending (ended_may (overlay_in s) l s.extract.draft lawful (may.reading reading));
     reading = λ r. absurd (true≢false (sym (sym (ap is_reading next) ∙ r)));
   }
 
@@ -159,12 +140,18 @@ module _ (s : Standing) (is : IsMap s.map) (lawful : every_lawful s.extract.chan
   ends_between : (st : Stage) → missing (next_stage st IsTerminus false) ≡ false → unwrap_or (next_stage st IsTerminus false) st ≡ Between
   ends_between st h = grind (arith, nat_tests)
 
-  -- a row that is taken keeps the fit
-  pub fits_after : (c : Content) → is_sound c ≡ true → missing (next_stage s.extract.stage (identity_for c) false) ≡ false → uppermost (content_lines s c) ≡ None → Fits s.map s.capacity (after s.extract c)
-  fits_after (Header h) sound taken none = goes_on IsHeader _ _ s.extract.draft taken refl refl
-  fits_after (Schedule b) sound taken none = begins b (is_brief b) refl (only_between s.extract.stage taken) (asked_fits b none)
-  fits_after (Operator o) sound taken none = goes_on IsExtra _ _ _ taken refl (done_length (overlay_in s) s.extract.draft (λ r. with_operator r o) (operator_key o))
-  fits_after (Origin l) sound taken none = goes_on IsOrigin _ _ _ taken refl (done_length (overlay_in s) s.extract.draft (λ r. with_call r l) (call_key l))
-  fits_after (Intermediate l) sound taken none = goes_on IsIntermediate _ _ _ taken refl (done_length (overlay_in s) s.extract.draft (λ r. with_call r l) (call_key l))
-  fits_after (Terminus l) sound taken none = ends l (ends_reading s.extract.stage taken) (ends_between s.extract.stage taken)
-  fits_after (Unread i) sound taken none = goes_on i _ _ s.extract.draft taken sound refl
+  -- the transaction that a BS asks for is lawful where those that join and the one that is then read are
+  asked_lawful : (b : BasicSchedule) (brief : Bool) → is_lawful (cond brief s.extract.draft (asked_by b b.change)) ≡ true → every_lawful (cs ++ cond brief (asked_by b b.change ∷ []) []) ≡ true → is_lawful (asked_by b b.change) ≡ true
+  asked_lawful b true d h = last_lawful cs (asked_by b b.change) h
+  asked_lawful b false d h = d
+
+  -- after a row that is taken what is pending and read may be done
+  pub may_after : (c : Content) → is_sound c ≡ true → is_lawful (after s.extract c).draft ≡ true → every_lawful (after s.extract c).changes ≡ true
+      → missing (next_stage s.extract.stage (identity_for c) false) ≡ false → uppermost (content_lines s c) ≡ None → MayGoOn s.store (after s.extract c)
+  may_after (Header h) sound draft lawful taken none = goes_on IsHeader _ _ s.extract.draft taken refl (λ m. m)
+  may_after (Schedule b) sound draft lawful taken none = begins b (is_brief b) refl (only_between s.extract.stage taken) (asked_may b (asked_lawful b (is_brief b) draft lawful) none)
+  may_after (Operator o) sound draft lawful taken none = goes_on IsExtra _ _ _ taken refl (same_may (overlay_in s) s.extract.draft (λ r. with_operator r o) (operator_key o) draft)
+  may_after (Origin l) sound draft lawful taken none = goes_on IsOrigin _ _ _ taken refl (same_may (overlay_in s) s.extract.draft (λ r. with_call r l) (call_key l) draft)
+  may_after (Intermediate l) sound draft lawful taken none = goes_on IsIntermediate _ _ _ taken refl (same_may (overlay_in s) s.extract.draft (λ r. with_call r l) (call_key l) draft)
+  may_after (Terminus l) sound draft lawful taken none = ends l (last_lawful cs (ended_by l s.extract.draft) lawful) (ends_reading s.extract.stage taken) (ends_between s.extract.stage taken)
+  may_after (Unread i) sound draft lawful taken none = goes_on i _ _ s.extract.draft taken sound (λ m. m)

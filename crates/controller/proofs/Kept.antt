@@ -1,18 +1,19 @@
 -- Each call keeps to the ledger.
-use Rattle.std.proofs.Common.{◌≡◌, ℕ, ◌+◌, ◌≤◌, min, true, false, List, [], ◌∷◌, ◌++◌, length, is_ok, Some, None, Ok, Err, Option, Result, sym, refl, ap, ◌∙◌, subst, length-append, nat_lt, arith, MatchOption}
-use Rattle.std.proofs.lemmas.List.{take_all}
+use Rattle.std.proofs.Common.{◌≡◌, ℕ, ◌+◌, min, true, false, List, [], ◌∷◌, ◌++◌, length, is_ok, Some, None, Ok, Err, Option, Result, sym, refl, ap, ◌∙◌, subst, length-append, nat_lt, arith, MatchOption}
 use Rattle.std.proofs.lemmas.List.Sums.{fold-append}
-use Rattle.std.proofs.lemmas.Bool.{true≢false, and_parts, and_from}
+use Rattle.std.proofs.lemmas.Bool.{true≢false}
 use Rattle.std.proofs.lemmas.Bool.Decides.{nat_tests}
 use Rattle.cif.specs.Refusals.{fault_of}
 use Rattle.schedule.specs.declared.record.Record.{Record}
 use Rattle.schedule.specs.declared.transaction.Change.{Change}
-use Rattle.schedule.specs.Transactions.{is_lawful, every_lawful}
-use Rattle.timetable.specs.Timetables.{IsMap}
+use Rattle.schedule.specs.Transactions.{every_lawful}
+use Rattle.timetable.specs.Timetables.{Meaning, IsMap, IsWithinCapacity}
 use Rattle.overlay.specs.Laws.{of_train}
 use Rattle.overlay.specs.Maps.{all_map}
-use Rattle.overlay.specs.Overlays.{done_to, done_all}
-use Rattle.overlay.specs.Settling.{tried_all}
+use Rattle.overlay.specs.Overlays.{done_to, done_all, with_done}
+use Rattle.overlay.specs.Permitted.{EachMayBeDone}
+use Rattle.overlay.specs.Settling.{after_tries}
+use Rattle.overlay.proofs.Permitted.{each_lawful, each_append, each_within}
 use Rattle.overlay.proofs.Settled.{all_tried}
 use Rattle.overlay.proofs.Trains.{unnamed_keep}
 use Rattle.extract.specs.Progress.{Progress, idle, transactions_of}
@@ -27,15 +28,16 @@ use Rattle.controller.specs.declared.answer.Answer.{Answer}
 use Rattle.controller.specs.declared.answer.Answer.TheVariants.{Done, Refused}
 use Rattle.controller.specs.Calls.{Call, refusal_of}
 use Rattle.controller.specs.Agreeing.{Agrees}
-use Rattle.controller.specs.Ledger.{Ledger, with_row, without_rows, with_confirmed, with_shown, accepting, confirmed_map, standing_of, LinesOf, Accepts, AnswerOf, answered, names}
+use Rattle.controller.specs.Ledger.{Ledger, with_confirmed, with_shown, accepting, confirmed_map, standing_of, LinesOf, Accepts, AnswerOf, answered, names}
 use Rattle.controller.specs.Keeping.{State, KeepsTo, is_confirm, Obeyed, Obeys}
 use Rattle.controller.proofs.Called.{idle_agrees}
 
 -- what keeps to a ledger is judged by what the ledger gives
-standing_is : (s : State) (ℓ : Ledger) → KeepsTo s ℓ → s.standing ≡ standing_of ℓ s.standing.capacity
-standing_is s ℓ k = same s.standing.capacity k.extract.progress k.map k.reference
+standing_is : (s : State) (ℓ : Ledger) → KeepsTo s ℓ → s.standing ≡ standing_of ℓ s.standing.store.capacity
+standing_is s ℓ k = same s.standing.store.capacity k.extract.progress k.map k.reference
   where
-    same : {p q : Progress} {m n : List Record} {r t : List ℕ} (c : ℕ) → p ≡ q → m ≡ n → r ≡ t → ◌≡◌ {A = Standing} (record { extract = p; map = m; capacity = c; reference = r }) (record { extract = q; map = n; capacity = c; reference = t })
+    same : {p q : Progress} {m n : List Record} {r t : List ℕ} (c : ℕ) → p ≡ q → m ≡ n → r ≡ t
+        → ◌≡◌ {A = Standing} (record { extract = p; store = record { map = m; capacity = c }; reference = r }) (record { extract = q; store = record { map = n; capacity = c }; reference = t })
     same c e f g = cc
 
 done_or_refused : (r : Result (Unit {0}) ExtractFault) (o : Option ExtractFault) → fault_of r ≡ o → MatchOption o (answered r ≡ Done) (λ f. answered r ≡ Refused f)
@@ -59,84 +61,66 @@ module _ (before after : State) (call : Call) (r : Result (Unit {0}) ExtractFaul
       → ((ℓ : Ledger) → answered r ≡ Done → Accepts ℓ call (answered r))
       → (is_ok r ≡ true → (ℓ : Ledger) → KeepsTo before ℓ → Does ℓ)
       → (is_ok r ≡ false → after ≡ before)
-      → after.standing.capacity ≡ before.standing.capacity
+      → after.standing.store.capacity ≡ before.standing.store.capacity
       → after.slots ≡ before.slots
       → Obeys before after call (answered r)
   obeys_done told accepts does stays capacity slots = record { ledger = at r refl; capacity = capacity; slots = slots }
     where
-      answer : (ℓ : Ledger) → KeepsTo before ℓ → AnswerOf ℓ before.standing.capacity before.slots call (answered r)
-      answer ℓ k = accepts_or_refused _ _ (answered r) (refusal_of call (standing_of ℓ before.standing.capacity) before.slots) (accepts ℓ) (done_or_refused r _ (told ∙ ap (λ s. refusal_of call s before.slots) (standing_is before ℓ k)))
+      answer : (ℓ : Ledger) → KeepsTo before ℓ → AnswerOf ℓ before.standing.store.capacity before.slots call (answered r)
+      answer ℓ k = accepts_or_refused _ _ (answered r) (refusal_of call (standing_of ℓ before.standing.store.capacity) before.slots) (accepts ℓ) (done_or_refused r _ (told ∙ ap (λ s. refusal_of call s before.slots) (standing_is before ℓ k)))
 
       at : (q : Result (Unit {0}) ExtractFault) → r ≡ q → (ℓ : Ledger) → KeepsTo before ℓ → Obeyed before after call (answered r) ℓ
       at (Ok u) e ℓ k =
           let d = does (ap is_ok e) ℓ k in
           let a : answered r ≡ Done = ap answered e in
-          subst (λ (v : Answer). AnswerOf ℓ before.standing.capacity before.slots call v → Obeyed before after call v ℓ) (sym a)
+          subst (λ (v : Answer). AnswerOf ℓ before.standing.store.capacity before.slots call v → Obeyed before after call v ℓ) (sym a)
           (λ t. record { told = t; keeps = d.0; unnamed = λ c y. d.1 c })
           (answer ℓ k)
       at (Err f) e ℓ k =
           let a : answered r ≡ Refused f = ap answered e in
-          subst (λ (v : Answer). AnswerOf ℓ before.standing.capacity before.slots call v → Obeyed before after call v ℓ) (sym a)
+          subst (λ (v : Answer). AnswerOf ℓ before.standing.store.capacity before.slots call v → Obeyed before after call v ℓ) (sym a)
           (λ t. record { told = t; keeps = subst (λ (s : State). KeepsTo s ℓ) (sym (stays (ap is_ok e))) k; unnamed = λ c y. absurd (true≢false (sym y)) })
           (answer ℓ k)
 
 -- what stays as it was
 pub record Stays (before after : State) : Type 0 where
-  pub map : after.standing.map ≡ before.standing.map
+  pub store : after.standing.store ≡ before.standing.store
   pub reference : after.standing.reference ≡ before.standing.reference
   pub tally : after.tally ≡ before.tally
   pub shown : after.shown ≡ before.shown
   pub lines : after.lines ≡ before.lines
 
+-- what was confirmed could be done to the start, whatever the store has now
+confirmed_stays : (t u : Meaning) (start : List Record) (cs : List Change) → u.capacity ≡ t.capacity → EachMayBeDone (record t { map = start }) cs → EachMayBeDone (record u { map = start }) cs
+confirmed_stays t u start cs e h = subst (λ (c : ℕ). EachMayBeDone (record { map = start; capacity = c }) cs) (sym e) h
+
 module _ (before after : State) (ℓ : Ledger) (k : KeepsTo before ℓ) where
-  -- a row is heard
-  pub keeps_row : (row : List ℕ) → Stays before after → Agrees after.standing.map after.standing.capacity (ℓ.rows ++ row ∷ []) after.standing.extract → every_lawful after.standing.extract.changes ≡ true → KeepsTo after (with_row ℓ row)
-  keeps_row row stays agrees lawful = record {
-    map = stays.map ∙ k.map;
+  -- only the open extract is another
+  pub keeps_extract : (rows : List (List ℕ)) → Stays before after → Agrees after.standing.store rows after.standing.extract → KeepsTo after (record ℓ { rows = rows })
+  keeps_extract rows stays agrees = record {
+    map = ap (λ (t : Meaning). t.map) stays.store ∙ k.map;
     extract = agrees;
     reference = stays.reference ∙ k.reference;
     tally = stays.tally ∙ k.tally;
     shown = stays.shown ∙ k.shown;
     lines = subst (λ (ls : List Line). LinesOf ℓ ls) (sym stays.lines) k.lines;
-    pending = lawful;
-    confirmed = k.confirmed;
-  }
-
-  idle_lawful : after.standing.extract ≡ idle → every_lawful after.standing.extract.changes ≡ true
-  idle_lawful e = ap (λ (p : Progress). every_lawful p.changes) e
-
-  -- an extract is abandoned
-  pub keeps_none : Stays before after → Agrees after.standing.map after.standing.capacity [] after.standing.extract → after.standing.extract ≡ idle → KeepsTo after (without_rows ℓ)
-  keeps_none stays agrees e = record {
-    map = stays.map ∙ k.map;
-    extract = agrees;
-    reference = stays.reference ∙ k.reference;
-    tally = stays.tally ∙ k.tally;
-    shown = stays.shown ∙ k.shown;
-    lines = subst (λ (ls : List Line). LinesOf ℓ ls) (sym stays.lines) k.lines;
-    pending = idle_lawful e;
-    confirmed = k.confirmed;
+    confirmed = confirmed_stays before.standing.store after.standing.store ℓ.start ℓ.confirmed (ap (λ (t : Meaning). t.capacity) stays.store) k.confirmed;
   }
 
   -- a board is turned
-  pub keeps_shown : (station : List ℕ) (day : ℕ) → after.standing ≡ before.standing → after.tally ≡ before.tally → after.shown ≡ Some (record { station = station; day = day }) → BoardOf before.standing.map station day after.lines → KeepsTo after (with_shown ℓ station day)
+  pub keeps_shown : (station : List ℕ) (day : ℕ) → after.standing ≡ before.standing → after.tally ≡ before.tally → after.shown ≡ Some (record { station = station; day = day }) → BoardOf before.standing.store.map station day after.lines → KeepsTo after (with_shown ℓ station day)
   keeps_shown station day same tally shown lines = record {
-    map = ap (λ (s : Standing). s.map) same ∙ k.map;
-    extract = subst (λ (s : Standing). Agrees s.map s.capacity ℓ.rows s.extract) (sym same) k.extract;
+    map = ap (λ (s : Standing). s.store.map) same ∙ k.map;
+    extract = subst (λ (s : Standing). Agrees s.store ℓ.rows s.extract) (sym same) k.extract;
     reference = ap (λ (s : Standing). s.reference) same ∙ k.reference;
     tally = tally ∙ k.tally;
     shown = shown;
     lines = subst (λ (m : List Record). BoardOf m station day after.lines) k.map lines;
-    pending = ap (λ (s : Standing). every_lawful s.extract.changes) same ∙ k.pending;
-    confirmed = k.confirmed;
+    confirmed = confirmed_stays before.standing.store after.standing.store ℓ.start ℓ.confirmed (ap (λ (s : Standing). s.store.capacity) same) k.confirmed;
   }
 
 most_twice : (a b : ℕ) → min (min a 4294967295 + b) 4294967295 ≡ min (a + b) 4294967295
 most_twice a b = omega arith
-
-lawful_both : (xs ys : List Change) → every_lawful xs ≡ true → every_lawful ys ≡ true → every_lawful (xs ++ ys) ≡ true
-lawful_both [] ys h t = t
-lawful_both (x ∷ xs) ys h t = let p = and_parts (is_lawful x) (every_lawful xs) h in and_from (is_lawful x) (every_lawful (xs ++ ys)) p.0 (lawful_both xs ys p.1 t)
 
 -- a train that is not named has no transaction
 not_named : (cs : List Change) (uid : ℕ) → names cs uid ≡ false → of_train uid cs ≡ []
@@ -154,38 +138,51 @@ unnamed_stay m cs (Some s) xs ys is lawful p q =
 
 -- an extract is confirmed
 module _ (before after : State) (ℓ : Ledger) (k : KeepsTo before ℓ)
-    (map : after.standing.map ≡ tried_all before.standing.capacity before.standing.map before.standing.extract.changes)
-    (capacity : after.standing.capacity ≡ before.standing.capacity)
+    (store : after.standing.store ≡ after_tries before.standing.store before.standing.extract.changes)
     (reference : after.standing.reference ≡ before.standing.extract.current)
     (tally : after.tally ≡ min (before.tally + length before.standing.extract.changes) 4294967295)
     (idles : after.standing.extract ≡ idle)
     (shown : after.shown ≡ before.shown)
-    (lines : LinesFor after.standing.map before.shown after.lines)
+    (lines : LinesFor after.standing.store.map before.shown after.lines)
   where
     abbrev cs : List Change
     cs = before.standing.extract.changes
+
+    lawful : every_lawful cs ≡ true
+    lawful = each_lawful before.standing.store cs k.extract.pending
 
     of_rows : cs ≡ transactions_of ℓ.rows
     of_rows = ap (λ (p : Progress). p.changes) k.extract.progress
 
     -- all of it finds room
-    done : after.standing.map ≡ done_all before.standing.map cs
-    done = map ∙ all_tried before.standing.capacity before.standing.map cs k.extract.is_map k.pending k.extract.fits.pending
+    done : after.standing.store ≡ with_done before.standing.store cs
+    done = store ∙ all_tried before.standing.store cs k.extract.pending
 
-    pub map_is : after.standing.map ≡ confirmed_map (with_confirmed ℓ)
-    map_is = done ∙ ap (λ m. done_all m cs) k.map ∙ ap (done_all (confirmed_map ℓ)) of_rows ∙ sym (fold-append done_to ℓ.start ℓ.confirmed (transactions_of ℓ.rows))
+    done_map : after.standing.store.map ≡ done_all before.standing.store.map cs
+    done_map = ap (λ (t : Meaning). t.map) done
 
-    few : length after.standing.map ≤ after.standing.capacity
-    few = subst (λ (n : ℕ). length after.standing.map ≤ n) (sym capacity) (subst (λ (m : List Record). length m ≤ before.standing.capacity) (sym done)
-        (subst (λ (xs : List Change). length (done_all before.standing.map xs) ≤ before.standing.capacity) (take_all (length cs) cs (omega arith)) (k.extract.fits.pending (length cs))))
+    pub same_capacity : after.standing.store.capacity ≡ before.standing.store.capacity
+    same_capacity = ap (λ (t : Meaning). t.capacity) done
 
-    is_map : IsMap after.standing.map
-    is_map = subst (λ (m : List Record). IsMap m) (sym done) (all_map before.standing.map cs k.extract.is_map k.pending)
+    pub map_is : after.standing.store.map ≡ confirmed_map (with_confirmed ℓ)
+    map_is = done_map ∙ ap (λ m. done_all m cs) k.map ∙ ap (done_all (confirmed_map ℓ)) of_rows ∙ sym (fold-append done_to ℓ.start ℓ.confirmed (transactions_of ℓ.rows))
+
+    within : IsWithinCapacity after.standing.store
+    within = subst (λ (t : Meaning). IsWithinCapacity t) (sym done) (each_within before.standing.store cs k.extract.is_map k.extract.within k.extract.pending)
+
+    is_map : IsMap after.standing.store.map
+    is_map = subst (λ (m : List Record). IsMap m) (sym done_map) (all_map before.standing.store.map cs k.extract.is_map lawful)
+
+    -- the transactions of the rows may be done after those that were confirmed
+    more : EachMayBeDone (record before.standing.store { map = ℓ.start }) (ℓ.confirmed ++ transactions_of ℓ.rows)
+    more = each_append (record before.standing.store { map = ℓ.start }) ℓ.confirmed (transactions_of ℓ.rows) k.confirmed
+        (subst (λ (m : List Record). EachMayBeDone (record before.standing.store { map = m }) (transactions_of ℓ.rows)) k.map
+        (subst (λ (xs : List Change). EachMayBeDone before.standing.store xs) of_rows k.extract.pending))
 
     pub keeps_confirmed : KeepsTo after (with_confirmed ℓ)
     keeps_confirmed = record {
       map = map_is;
-      extract = idle_agrees after.standing.map after.standing.capacity after.standing.extract idles is_map few;
+      extract = idle_agrees after.standing.store after.standing.extract idles is_map within;
       reference = reference ∙ ap (λ (p : Progress). p.current) k.extract.progress;
       tally =
           tally
@@ -195,12 +192,11 @@ module _ (before after : State) (ℓ : Ledger) (k : KeepsTo before ℓ)
           ∙ ap (λ n. min n 4294967295) (sym (length-append ℓ.confirmed (transactions_of ℓ.rows)));
       shown = shown ∙ k.shown;
       lines = subst (λ (o : Option StationDay). LinesFor (confirmed_map (with_confirmed ℓ)) o after.lines) k.shown (subst (λ (m : List Record). LinesFor m before.shown after.lines) map_is lines);
-      pending = ap (λ (p : Progress). every_lawful p.changes) idles;
-      confirmed = lawful_both ℓ.confirmed (transactions_of ℓ.rows) k.confirmed (ap every_lawful (sym of_rows) ∙ k.pending);
+      confirmed = confirmed_stays before.standing.store after.standing.store ℓ.start (ℓ.confirmed ++ transactions_of ℓ.rows) same_capacity more;
     }
 
     pub keeps_unnamed : struck (names (transactions_of ℓ.rows)) before.lines ≡ struck (names (transactions_of ℓ.rows)) after.lines
     keeps_unnamed = subst (λ (xs : List Change). struck (names xs) before.lines ≡ struck (names xs) after.lines) of_rows
-        (unnamed_stay before.standing.map cs before.shown before.lines after.lines k.extract.is_map k.pending
-        (subst (λ (o : Option StationDay). LinesFor before.standing.map o before.lines) (sym k.shown) (subst (λ (m : List Record). LinesFor m ℓ.shown before.lines) (sym k.map) k.lines))
-        (subst (λ (m : List Record). LinesFor m before.shown after.lines) done lines))
+        (unnamed_stay before.standing.store.map cs before.shown before.lines after.lines k.extract.is_map lawful
+        (subst (λ (o : Option StationDay). LinesFor before.standing.store.map o before.lines) (sym k.shown) (subst (λ (m : List Record). LinesFor m ℓ.shown before.lines) (sym k.map) k.lines))
+        (subst (λ (m : List Record). LinesFor m before.shown after.lines) done_map lines))

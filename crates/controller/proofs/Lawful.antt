@@ -5,15 +5,20 @@ use Rattle.cif.specs.declared.refusal.ColumnFault.{ColumnFault}
 use Rattle.cif.specs.Refusals.{TableLine, uppermost}
 use Rattle.schedule.specs.Records.{kept_calls}
 use Rattle.schedule.specs.Building.{is_kept, adds_call, with_call}
-use Rattle.overlay.specs.Overlays.{done_all}
-use Rattle.extract.specs.Progress.{Progress}
-use Rattle.controller.specs.Laws.{OverlayIsOfRows, PendingFits, none_holds, IsUppermost, UppermostIsTold, CallsInRowOrder}
+use Rattle.overlay.specs.Overlays.{with_done}
+use Rattle.overlay.specs.Permitted.{EachMayBeDone}
+use Rattle.overlay.proofs.Permitted.{each_take, each_within}
+use Rattle.extract.specs.Progress.{Progress, transactions_of}
+use Rattle.controller.specs.Laws.{OverlayIsOfRows, PendingMayBeDone, PendingFits, none_holds, IsUppermost, UppermostIsTold, CallsInRowOrder}
 
 pub of_rows : OverlayIsOfRows
-of_rows m capacity rows p a = ap (λ q. done_all m q.changes) a.progress
+of_rows store rows p a = ap (λ q. with_done store q.changes) a.progress
+
+pub permitted : PendingMayBeDone
+permitted store rows p a = subst (λ (q : Progress). EachMayBeDone store q.changes) a.progress a.pending
 
 pub fitting : PendingFits
-fitting m capacity rows p a k = subst (λ (q : Progress). length (done_all m (take k q.changes)) ≤ capacity) a.progress (a.fits.pending k)
+fitting store rows p a k = each_within store (take k (transactions_of rows)) a.is_map a.within (each_take store k (transactions_of rows) (permitted store rows p a))
 
 pub told_uppermost : UppermostIsTold
 told_uppermost [] = refl

@@ -1,5 +1,5 @@
 -- The calls, and the table of refusals: when each is turned away, and with what.
-use Rattle.std.specs.Prelude.{ℕ, ◌+◌, Bool, true, false, not, List, [], ◌∷◌, ◌++◌, Some, None, Ok, Err, Option, Result}
+use Rattle.std.specs.Prelude.{ℕ, ◌+◌, Bool, true, false, cond, not, List, [], ◌∷◌, ◌++◌, is_some, Some, None, Ok, Err, Option, Result}
 use Rattle.std.specs.Option.{option_map}
 use Rattle.cif.specs.declared.content.Content.{Content}
 use Rattle.cif.specs.declared.identity.Identity.{Identity}
@@ -28,15 +28,20 @@ pub data Call : Type 0 where
   Tell : ℕ → Call
   Tally : Call
 
+-- the row that a call is handed, if it is handed one
+abbrev pub row_of : Call → Option (List ℕ)
+row_of (Open row) = Some row
+row_of (Row row) = Some row
+row_of _ = None
+
+-- the lines of the table that a value gives, if there is one
+abbrev pub lines_if_some : {X : Type 0} → Option X → (X → List TableLine) → List TableLine
+lines_if_some (Some x) lines = lines x
+lines_if_some None lines = []
+
 -- the lines of the table that a call's row gives, if it has a row
 abbrev pub on_row : Call → (List ℕ → List TableLine) → List TableLine
-on_row (Open row) lines = lines row
-on_row (Row row) lines = lines row
-on_row Confirm lines = []
-on_row Abandon lines = []
-on_row (Turn station day) lines = []
-on_row (Tell place) lines = []
-on_row Tally lines = []
+on_row call lines = lines_if_some (row_of call) lines
 
 -- a row of an unknown identity fits no stage
 abbrev pub misfits : (Stage → Identity → Bool) → Stage → Option Identity → Bool
@@ -50,19 +55,11 @@ is_out_of_place (Open row) stage = misfits is_no_opening stage (identity_in row)
 is_out_of_place (Row row) stage = misfits is_misplaced stage (identity_in row)
 is_out_of_place Confirm stage = not (is_stage stage Complete)
 is_out_of_place Abandon stage = is_stage stage Idle
-is_out_of_place (Turn station day) stage = false
-is_out_of_place (Tell place) stage = false
-is_out_of_place Tally stage = false
+is_out_of_place _ stage = false
 
 -- the column that is told with it: 1, or 0 where there is no row
 abbrev pub place_column : Call → ℕ
-place_column (Open row) = 1
-place_column (Row row) = 1
-place_column Confirm = 0
-place_column Abandon = 0
-place_column (Turn station day) = 0
-place_column (Tell place) = 0
-place_column Tally = 0
+place_column call = cond (is_some (row_of call)) 1 0
 
 -- the value of a result, if it has one
 abbrev pub value_in : {X E : Type 0} → Result X E → Option X
@@ -71,22 +68,17 @@ value_in (Err e) = None
 
 -- the lines of the table that ask for what a row holds, if it can be read
 abbrev pub held_lines : Standing → Option Content → List TableLine
-held_lines s (Some c) = content_lines s c
-held_lines s None = []
+held_lines s content = lines_if_some content (content_lines s)
 
 -- the lines of the table that ask for the board; with a call that is given none, any number may stand for its line slots
 abbrev pub board_lines : Call → ℕ → ℕ → List TableLine
-board_lines (Open row) slots capacity = []
-board_lines (Row row) slots capacity = []
 board_lines Confirm slots capacity = slot_lines slots capacity
-board_lines Abandon slots capacity = []
 board_lines (Turn station day) slots capacity = turn_lines station day slots capacity
-board_lines (Tell place) slots capacity = []
-board_lines Tally slots capacity = []
+board_lines _ slots capacity = []
 
 -- those lines of the table that can hold of a confirmation: the extract is not complete, or the line slots are too few
 abbrev pub confirm_lines : Standing → ℕ → List TableLine
-confirm_lines s slots = line OutOfPlace 0 (not (is_stage s.extract.stage Complete)) ∷ slot_lines slots s.capacity
+confirm_lines s slots = line OutOfPlace 0 (not (is_stage s.extract.stage Complete)) ∷ slot_lines slots s.store.capacity
 
 -- THE TABLE OF REFUSALS, in the order of its lines, over what a call is judged by and the board's line slots
 abbrev pub refusals : Call → Standing → ℕ → List TableLine
@@ -95,17 +87,16 @@ refusals call s slots =
     ++ (line OutOfPlace (place_column call) (is_out_of_place call s.extract.stage)  -- 4
     ∷ (on_row call (λ row. field_lines_in (identity_in row) row)  -- 5 and 6: forms of the fields, order of the days
     ++ (on_row call (λ row. held_lines s (value_in (read_in row)))  -- 7 to 13: references, keys, calls, rows, room
-    ++ board_lines call slots s.capacity)))  -- 14 and 15: station and day, line slots
+    ++ board_lines call slots s.store.capacity)))  -- 14 and 15: station and day, line slots
 
 -- a fault is told with the row's identity and number, or with blanks and 0 where there is no row
+abbrev pub told_at : Option (List ℕ) → ℕ → ColumnFault → ExtractFault
+told_at (Some row) number f = in_extract number (told_in row f)
+told_at None number f = in_extract 0 (in_row blanks f)
+
+-- the row's number is the number of rows taken plus 1
 abbrev pub told_with : Call → Standing → ColumnFault → ExtractFault
-told_with (Open row) s f = in_extract (s.extract.taken + 1) (told_in row f)
-told_with (Row row) s f = in_extract (s.extract.taken + 1) (told_in row f)
-told_with Confirm s f = in_extract 0 (in_row blanks f)
-told_with Abandon s f = in_extract 0 (in_row blanks f)
-told_with (Turn station day) s f = in_extract 0 (in_row blanks f)
-told_with (Tell place) s f = in_extract 0 (in_row blanks f)
-told_with Tally s f = in_extract 0 (in_row blanks f)
+told_with call s f = told_at (row_of call) (s.extract.taken + 1) f
 
 -- a call is turned away exactly when a line holds, and the uppermost is told
 abbrev pub refusal_of : Call → Standing → ℕ → Option ExtractFault

@@ -1,18 +1,18 @@
 -- A controller and its board keep to the ledger of the calls.
 use Rattle.std.specs.Prelude.{◌≡◌, ℕ, Bool, true, false, List, Option}
-use Rattle.schedule.specs.declared.record.Record.{Record}
-use Rattle.schedule.specs.Transactions.{every_lawful}
-use Rattle.ordered.specs.Tables.{items, room}
+use Rattle.timetable.specs.Timetables.{Meaning}
+use Rattle.overlay.specs.Permitted.{EachMayBeDone}
 use Rattle.extract.specs.Progress.{transactions_of}
 use Rattle.extract.specs.Judging.{Standing}
 use Rattle.board.specs.declared.display.Board.{Board}
 use Rattle.board.specs.declared.display.StationDay.{StationDay}
 use Rattle.board.specs.declared.line.Line.{Line}
+use Rattle.board.specs.Boards.{shown_of, lines_of, slots_of}
 use Rattle.board.specs.Strikes.{struck}
 use Rattle.controller.specs.declared.answer.Answer.{Answer}
 use Rattle.controller.specs.declared.controller.Controller.{Controller}
-use Rattle.controller.specs.Shown.{standing_in}
-use Rattle.controller.specs.Calls.{Call, Open, Row, Confirm, Abandon, Turn, Tell, Tally}
+use Rattle.controller.specs.Shown.{standing_in, count_of}
+use Rattle.controller.specs.Calls.{Call, Confirm}
 use Rattle.controller.specs.Agreeing.{Agrees}
 use Rattle.controller.specs.Ledger.{Ledger, stepped, confirmed_map, tally_of, LinesOf, AnswerOf, is_accepted, names}
 
@@ -26,44 +26,40 @@ pub record State : Type 0 where
 
 -- with a board
 abbrev pub state : Standing → ℕ → Board → State
-state s tally b = record { standing = s; tally = tally; shown = b.shown; lines = items b.lines.inner; slots = room b.lines.inner }
+state s tally b = record { standing = s; tally = tally; shown = shown_of b; lines = lines_of b; slots = slots_of b }
 
--- a controller over a store that means a map and a capacity, with a board
-abbrev pub state_in : {S : Type 0} → (S → List Record) → (S → ℕ) → Controller S → Board → State
-state_in map capacity c b = state (standing_in map capacity c) c.tally b
+-- a controller with a board
+abbrev pub state_in : {S : Type 0} → (S → Meaning) → Controller S → Board → State
+state_in meaning c b = state (standing_in meaning c) (count_of c) b
 
--- controller and board keep to a ledger: each part is what the ledger gives when it is worked out afresh; capacity and line slots are in no ledger
+-- controller and board keep to a ledger: each part is what the ledger gives when it is worked out afresh; capacity and line slots are
+-- in no ledger
 pub record KeepsTo (s : State) (ℓ : Ledger) : Type 0 where
-  pub map : s.standing.map ≡ confirmed_map ℓ
-  -- and what is pending fits the store
-  pub extract : Agrees s.standing.map s.standing.capacity ℓ.rows s.standing.extract
+  pub map : s.standing.store.map ≡ confirmed_map ℓ
+  pub extract : Agrees s.standing.store ℓ.rows s.standing.extract
   pub reference : s.standing.reference ≡ ℓ.reference
   pub tally : s.tally ≡ tally_of ℓ
   pub shown : s.shown ≡ ℓ.shown
   pub lines : LinesOf ℓ s.lines
-  -- every transaction that is pending or was confirmed brings a schedule
-  pub pending : every_lawful s.standing.extract.changes ≡ true
-  pub confirmed : every_lawful ℓ.confirmed ≡ true
+  -- each confirmed transaction, done in order to the start, is one that may be done
+  pub confirmed : EachMayBeDone (record s.standing.store { map = ℓ.start }) ℓ.confirmed
 
 -- whether a call is a confirm
 abbrev pub is_confirm : Call → Bool
-is_confirm (Open row) = false
-is_confirm (Row row) = false
 is_confirm Confirm = true
-is_confirm Abandon = false
-is_confirm (Turn station day) = false
-is_confirm (Tell place) = false
-is_confirm Tally = false
+is_confirm _ = false
 
 -- what a call owes to a ledger that was kept to before it: its answer is the ledger's, the ledger that has it written down is kept to
 -- after it, and around a confirmation the lines of trains that the extract does not name are the same list
 pub record Obeyed (before after : State) (call : Call) (answer : Answer) (ℓ : Ledger) : Type 0 where
-  pub told : AnswerOf ℓ before.standing.capacity before.slots call answer
+  pub told : AnswerOf ℓ before.standing.store.capacity before.slots call answer
   pub keeps : KeepsTo after (stepped ℓ call (is_accepted answer))
-  pub unnamed : is_confirm call ≡ true → is_accepted answer ≡ true → struck (names (transactions_of ℓ.rows)) before.lines ≡ struck (names (transactions_of ℓ.rows)) after.lines
+  pub unnamed :
+      is_confirm call ≡ true → is_accepted answer ≡ true
+      → struck (names (transactions_of ℓ.rows)) before.lines ≡ struck (names (transactions_of ℓ.rows)) after.lines
 
 -- a call obeys every ledger that was kept to before it; capacity and line slots stay
 pub record Obeys (before after : State) (call : Call) (answer : Answer) : Type 0 where
   pub ledger : (ℓ : Ledger) → KeepsTo before ℓ → Obeyed before after call answer ℓ
-  pub capacity : after.standing.capacity ≡ before.standing.capacity
+  pub capacity : after.standing.store.capacity ≡ before.standing.store.capacity
   pub slots : after.slots ≡ before.slots

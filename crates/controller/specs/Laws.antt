@@ -2,13 +2,15 @@
 use Rattle.std.specs.Prelude.{◌≡◌, ℕ, ◌<◌, ◌≤◌, Bool, true, false, cond, not, ◌&&◌, List, [], ◌∷◌, ◌++◌, length, take, Some, MatchOption}
 use Rattle.cif.specs.declared.content.Location.{Location}
 use Rattle.cif.specs.declared.identity.Identity.{Identity}
-use Rattle.cif.specs.declared.identity.Identity.TheVariants.{Header, BasicSchedule, BasicExtra, Origin, Intermediate, Terminus, ChangeEnRoute, LocationInsert, LocationAmend, LocationDelete, Association, Trailer}
+use Rattle.cif.specs.declared.identity.Identity.TheVariants.{BasicSchedule, Terminus}
 use Rattle.cif.specs.declared.refusal.ColumnFault.{ColumnFault}
 use Rattle.cif.specs.Refusals.{TableLine, uppermost}
 use Rattle.schedule.specs.declared.record.Record.{Record}
 use Rattle.schedule.specs.Records.{kept_calls, is_cancellation}
 use Rattle.schedule.specs.Building.{is_kept, with_call}
-use Rattle.overlay.specs.Overlays.{done_all}
+use Rattle.timetable.specs.Timetables.{Meaning, IsWithinCapacity}
+use Rattle.overlay.specs.Overlays.{with_done}
+use Rattle.overlay.specs.Permitted.{EachMayBeDone}
 use Rattle.extract.specs.declared.stage.Stage.{Stage}
 use Rattle.extract.specs.Stages.{next_stage, is_reading}
 use Rattle.extract.specs.Progress.{Progress, transactions_of}
@@ -16,11 +18,20 @@ use Rattle.controller.specs.Agreeing.{Agrees}
 
 -- the overlay's map is the store's with the transactions of the rows, read afresh from their bytes, done in order
 abbrev pub OverlayIsOfRows : Type 0
-OverlayIsOfRows = (m : List Record) (capacity : ℕ) (rows : List (List ℕ)) (p : Progress) → Agrees m capacity rows p → done_all m p.changes ≡ done_all m (transactions_of rows)
+OverlayIsOfRows =
+    (store : Meaning) (rows : List (List ℕ)) (p : Progress) → Agrees store rows p
+    → with_done store p.changes ≡ with_done store (transactions_of rows)
 
--- the transactions of the rows fit the store when they are done in order: after none of them are there more keys than the capacity
+-- each transaction of the rows, done in order to the store, is one that may be done
+abbrev pub PendingMayBeDone : Type 0
+PendingMayBeDone =
+    (store : Meaning) (rows : List (List ℕ)) (p : Progress) → Agrees store rows p → EachMayBeDone store (transactions_of rows)
+
+-- so the transactions of the rows fit the store: after none of them are there more keys than the capacity
 abbrev pub PendingFits : Type 0
-PendingFits = (m : List Record) (capacity : ℕ) (rows : List (List ℕ)) (p : Progress) → Agrees m capacity rows p → (k : ℕ) → length (done_all m (take k (transactions_of rows))) ≤ capacity
+PendingFits =
+    (store : Meaning) (rows : List (List ℕ)) (p : Progress) → Agrees store rows p
+    → (k : ℕ) → IsWithinCapacity (with_done store (take k (transactions_of rows)))
 
 -- no line of a table holds
 abbrev pub none_holds : List TableLine → Bool
@@ -40,18 +51,9 @@ UppermostIsTold = (ls : List TableLine) → MatchOption (uppermost ls) (none_hol
 
 -- rows that neither begin nor end a schedule: all but BS and LT
 abbrev pub is_passing : Identity → Bool
-is_passing Header = true
 is_passing BasicSchedule = false
-is_passing BasicExtra = true
-is_passing Origin = true
-is_passing Intermediate = true
 is_passing Terminus = false
-is_passing ChangeEnRoute = true
-is_passing LocationInsert = true
-is_passing LocationAmend = true
-is_passing LocationDelete = true
-is_passing Association = true
-is_passing Trailer = true
+is_passing _ = true
 
 -- a schedule is being read from its BS, unless that is brief, to its LT, and any other row that a stage takes leaves that as it is
 pub record ReadFromBsToLt : Type 0 where

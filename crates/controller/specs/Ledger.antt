@@ -3,6 +3,7 @@ use Rattle.std.specs.Prelude.{◌≡◌, ℕ, min, Bool, true, false, cond, List
 use Rattle.schedule.specs.declared.record.Record.{Record}
 use Rattle.schedule.specs.declared.transaction.Change.{Change}
 use Rattle.schedule.specs.Records.{seven_blanks}
+use Rattle.timetable.specs.Timetables.{Meaning}
 use Rattle.overlay.specs.Overlays.{done_all}
 use Rattle.overlay.specs.Laws.{of_train}
 use Rattle.extract.specs.Progress.{progress_of, transactions_of}
@@ -30,19 +31,24 @@ new_ledger start = record { start = start; rows = []; confirmed = []; reference 
 
 -- a row more
 abbrev pub with_row : Ledger → List ℕ → Ledger
-with_row ℓ row = record { start = ℓ.start; rows = ℓ.rows ++ row ∷ []; confirmed = ℓ.confirmed; reference = ℓ.reference; shown = ℓ.shown }
+with_row ℓ row = record ℓ { rows = ℓ.rows ++ row ∷ [] }
 
 -- the rows dropped
 abbrev pub without_rows : Ledger → Ledger
-without_rows ℓ = record { start = ℓ.start; rows = []; confirmed = ℓ.confirmed; reference = ℓ.reference; shown = ℓ.shown }
+without_rows ℓ = record ℓ { rows = [] }
 
 -- the transactions of the rows put after the confirmed ones, their current reference in force, and the rows dropped
 abbrev pub with_confirmed : Ledger → Ledger
-with_confirmed ℓ = record { start = ℓ.start; rows = []; confirmed = ℓ.confirmed ++ transactions_of ℓ.rows; reference = (progress_of ℓ.rows).current; shown = ℓ.shown }
+with_confirmed ℓ =
+    record ℓ {
+      rows = [];
+      confirmed = ℓ.confirmed ++ transactions_of ℓ.rows;
+      reference = (progress_of ℓ.rows).current;
+    }
 
 -- station and day set
 abbrev pub with_shown : Ledger → List ℕ → ℕ → Ledger
-with_shown ℓ station day = record { start = ℓ.start; rows = ℓ.rows; confirmed = ℓ.confirmed; reference = ℓ.reference; shown = Some (record { station = station; day = day }) }
+with_shown ℓ station day = record ℓ { shown = Some (record { station = station; day = day }) }
 
 -- what an accepted call changes
 abbrev pub accepting : Ledger → Call → Ledger
@@ -51,8 +57,7 @@ accepting ℓ (Row row) = with_row ℓ row
 accepting ℓ Confirm = with_confirmed ℓ
 accepting ℓ Abandon = without_rows ℓ
 accepting ℓ (Turn station day) = with_shown ℓ station day
-accepting ℓ (Tell place) = ℓ
-accepting ℓ Tally = ℓ
+accepting ℓ _ = ℓ
 
 -- after a call, by whether it was accepted: a refused call changes nothing
 abbrev pub stepped : Ledger → Call → Bool → Ledger
@@ -66,9 +71,13 @@ confirmed_map ℓ = done_all ℓ.start ℓ.confirmed
 abbrev pub tally_of : Ledger → ℕ
 tally_of ℓ = min (length ℓ.confirmed) 4294967295
 
+-- what a store of a capacity means that has the confirmed map
+abbrev pub store_for : Ledger → ℕ → Meaning
+store_for ℓ capacity = record { map = confirmed_map ℓ; capacity = capacity }
+
 -- what a call is judged by: the open extract as its rows give it, the confirmed map and the reference
 abbrev pub standing_of : Ledger → ℕ → Standing
-standing_of ℓ capacity = record { extract = progress_of ℓ.rows; map = confirmed_map ℓ; capacity = capacity; reference = ℓ.reference }
+standing_of ℓ capacity = record { extract = progress_of ℓ.rows; store = store_for ℓ capacity; reference = ℓ.reference }
 
 -- the lines: those of a board for the confirmed map at the station and day, none without a station
 abbrev pub LinesOf : Ledger → List Line → Type 0
@@ -82,24 +91,19 @@ pub record Tells (ℓ : Ledger) (place : ℕ) (answer : Answer) : Type 0 where
 
 -- the answer to a call that is not refused
 abbrev pub Accepts : Ledger → Call → Answer → Type 0
-Accepts ℓ (Open row) a = a ≡ Done
-Accepts ℓ (Row row) a = a ≡ Done
-Accepts ℓ Confirm a = a ≡ Done
-Accepts ℓ Abandon a = a ≡ Done
-Accepts ℓ (Turn station day) a = a ≡ Done
 Accepts ℓ (Tell place) a = Tells ℓ place a
 Accepts ℓ Tally a = a ≡ Total (tally_of ℓ)
+Accepts ℓ _ a = a ≡ Done
 
 -- the answer to a call, for a store's capacity and a board's line slots: refused as the table has it, or accepted
 abbrev pub AnswerOf : Ledger → ℕ → ℕ → Call → Answer → Type 0
-AnswerOf ℓ capacity slots call a = MatchOption (refusal_of call (standing_of ℓ capacity) slots) (Accepts ℓ call a) (λ f. a ≡ Refused f)
+AnswerOf ℓ capacity slots call a =
+    MatchOption (refusal_of call (standing_of ℓ capacity) slots) (Accepts ℓ call a) (λ f. a ≡ Refused f)
 
 -- whether an answer says that the call was accepted
 abbrev pub is_accepted : Answer → Bool
-is_accepted Done = true
 is_accepted (Refused f) = false
-is_accepted (Told l) = true
-is_accepted (Total n) = true
+is_accepted _ = true
 
 -- the answer to a call that answers only that it was done
 abbrev pub answered : Result (Unit {0}) ExtractFault → Answer

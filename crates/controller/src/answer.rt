@@ -5,7 +5,7 @@ ghost use Rattle.controller.specs.Ledger.{answered};
 use crate::fault::ExtractFault;
 use board::line::Line;
 
-// That it was done, why it was turned away, the line at a place or none, or the tally.
+/// That it was done, why it was turned away, the line at a place or none, or the tally.
 #[derive(Clone, Copy, Debug, PartialEq, Eq)]
 pub enum Answer {
     Done,

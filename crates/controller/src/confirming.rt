@@ -1,12 +1,12 @@
 // An extract that is confirmed.
-ghost use Rattle.std.specs.Prelude.{◌≡◌, ◌+◌, min, Bool, true, false, length, is_ok};
+ghost use Rattle.std.specs.Prelude.{◌≡◌, ◌+◌, min, length, OnOk, OnErr};
 ghost use Rattle.cif.specs.Refusals.{uppermost, fault_of};
-ghost use Rattle.ordered.specs.Tables.{items, room, RestKept};
-ghost use Rattle.overlay.specs.Settling.{tried_all};
+ghost use Rattle.overlay.specs.Settling.{after_tries};
+ghost use Rattle.board.specs.Boards.{shown_of, lines_of, slots_of, SlotsKept};
 ghost use Rattle.board.specs.Lines.{LinesFor};
 ghost use Rattle.extract.specs.Progress.{idle};
 ghost use Rattle.controller.specs.Calls.{Confirm as ToConfirm, refusal_of, confirm_lines};
-ghost use Rattle.controller.specs.Shown.{progress_in, standing_in};
+ghost use Rattle.controller.specs.Shown.{store_of, reference_of, count_of, progress_in, standing_in};
 ghost use Rattle.controller.specs.Ledger.{answered};
 ghost use Rattle.controller.specs.Keeping.{state_in, Obeys};
 
@@ -22,7 +22,10 @@ use timetable::Store;
 impl<S: Store> Controller<S> {
     // Whether the extract is complete and the board has line slots enough.
     fn may_confirm(&mut self, board: &mut Board<'_>) -> Result<(), ColumnFault>
-        ensures told { fault_of result ≡ uppermost (confirm_lines (standing_in S.meaning self.old) (room board.old.lines.inner)) }
+        ensures told {
+            fault_of result
+            ≡ uppermost (confirm_lines (standing_in S.meaning self.old) (slots_of board.old))
+        }
         ensures same { (self.new ≡ self.old) × (board.new ≡ board.old) }
     {
         if self.extract.stage() != Stage::Complete {
@@ -31,19 +34,36 @@ impl<S: Store> Controller<S> {
         board.suits(&mut self.overlay.store)
     }
 
-    // Does what is pending to the store, and sets the lines of the board to those of the new map for its station and day.
+    /// Does what is pending to the store, and sets the lines of the board to those of the new map for its station and day. It is
+    /// refused with 4 unless the extract is complete, and with 15 where the board has fewer line slots than twice the capacity;
+    /// then neither controller nor board changes.
     pub fn confirm(&mut self, board: &mut Board<'_>) -> Result<(), ExtractFault>
-        ensures told { fault_of result ≡ refusal_of ToConfirm (standing_in S.meaning self.old) (room board.old.lines.inner) }
-        ensures map { is_ok result ≡ true → (S.meaning self.new.overlay.store).map ≡ tried_all (S.meaning self.old.overlay.store).capacity (S.meaning self.old.overlay.store).map (progress_in self.old).changes }
-        ensures lines { is_ok result ≡ true → LinesFor (S.meaning self.new.overlay.store).map board.old.shown (items board.new.lines.inner) }
-        ensures reference { is_ok result ≡ true → self.new.reference ≡ (progress_in self.old).current }
-        ensures tally { is_ok result ≡ true → self.new.tally ≡ min (self.old.tally + length (progress_in self.old).changes) 4294967295 }
-        ensures idle { is_ok result ≡ true → progress_in self.new ≡ idle }
-        ensures capacity { (S.meaning self.new.overlay.store).capacity ≡ (S.meaning self.old.overlay.store).capacity }
-        ensures board { (board.new.shown ≡ board.old.shown) × (room board.new.lines.inner ≡ room board.old.lines.inner) }
-        ensures rest { RestKept board.old.lines.inner board.new.lines.inner }
-        ensures unchanged { is_ok result ≡ false → (self.new ≡ self.old) × (board.new ≡ board.old) }
-        ensures obeys { Obeys (state_in S.meaning self.old board.old) (state_in S.meaning self.new board.new) ToConfirm (answered result) }
+        ensures told {
+            fault_of result
+            ≡ refusal_of ToConfirm (standing_in S.meaning self.old) (slots_of board.old)
+        }
+        ensures store {
+            OnOk result (S.meaning (store_of self.new)
+                ≡ after_tries (S.meaning (store_of self.old)) (progress_in self.old).changes)
+        }
+        ensures lines {
+            OnOk result
+                (LinesFor (S.meaning (store_of self.new)).map (shown_of board.old)
+                    (lines_of board.new))
+        }
+        ensures reference { OnOk result (reference_of self.new ≡ (progress_in self.old).current) }
+        ensures tally {
+            OnOk result (count_of self.new
+                ≡ min (count_of self.old + length (progress_in self.old).changes) 4294967295)
+        }
+        ensures idle { OnOk result (progress_in self.new ≡ idle) }
+        ensures shown { shown_of board.new ≡ shown_of board.old }
+        ensures slots { SlotsKept board.old board.new }
+        ensures unchanged { OnErr result ((self.new ≡ self.old) × (board.new ≡ board.old)) }
+        ensures obeys {
+            Obeys (state_in S.meaning self.old board.old) (state_in S.meaning self.new board.new)
+                ToConfirm (answered result)
+        }
     {
         without_row(self.may_confirm(board))?;
         let count = self.overlay.pending.len() as u32;

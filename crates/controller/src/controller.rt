@@ -6,8 +6,8 @@ ghost use Rattle.extract.specs.Stages.{has_room};
 use extract::extract::Extract;
 use overlay::overlay::Overlay;
 
-// The store with what is pending over it, the extract that is open, the reference in force, which the next extract has to follow, and the tally
-// of confirmed transactions.
+/// The store with what is pending over it, the extract that is open, the reference in force, which the next extract has to follow, and the tally
+/// of confirmed transactions.
 #[derive(Drop)]
 pub struct Controller<S> {
     pub(crate) overlay: Overlay<S>,

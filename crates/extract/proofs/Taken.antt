@@ -14,8 +14,8 @@ use Rattle.schedule.specs.Building.{with_operator, with_call, with_destination, 
 use Rattle.extract.specs.declared.stage.Stage.{Stage}
 use Rattle.extract.specs.declared.stage.Stage.TheVariants.{Between, Begun, Extra, Running}
 use Rattle.extract.specs.Stages.{next_stage, is_identity}
-use Rattle.extract.specs.Progress.{after}
-use Rattle.extract.specs.Judging.{Standing, is_misplaced, taken_by, admitted, judged, room_lines, content_lines, Told}
+use Rattle.extract.specs.Progress.{ended_by, after}
+use Rattle.extract.specs.Judging.{Standing, is_misplaced, taken_by, admitted, judged, room_lines, call_row_lines, content_lines, Told}
 use Rattle.extract.specs.Seen.{moved}
 use Rattle.extract.proofs.Lines.{or_next, uppermost_both}
 
@@ -56,23 +56,23 @@ module _ (s : Standing) where
   judged_same : {X : Type 0} (ls ks : List TableLine) (x y : X) → uppermost ls ≡ uppermost ks → x ≡ y → judged ls x ≡ judged ks y
   judged_same ls ks x y u e = ap (λ o. elim o [ Some f ↦ Err f | None ↦ Ok x ]) u ∙ ap (λ z. judged ks z) e
 
-  pub origin_taken : (l : Location) → next_stage s.extract.stage IsOrigin false ≡ Some Running → admitted s (Origin l) ≡ judged (bringing_lines s.extract.draft l ++ room_lines s.extract.taken) (moved s.extract Running (bringing (λ r. with_call r l) s.extract.draft) [])
+  pub origin_taken : (l : Location) → next_stage s.extract.stage IsOrigin false ≡ Some Running → admitted s (Origin l) ≡ judged (call_row_lines s.extract.draft l s.extract.taken) (moved s.extract Running (bringing (λ r. with_call r l) s.extract.draft) [])
   unfolding located
   origin_taken l st =
       let e : after s.extract (Origin l) ≡ moved s.extract Running (bringing (λ r. with_call r l) s.extract.draft) [] = rw st refl in
       judged_same (content_lines s (Origin l)) (bringing_lines s.extract.draft l ++ room_lines s.extract.taken) (after s.extract (Origin l)) (moved s.extract Running (bringing (λ r. with_call r l) s.extract.draft) []) (located_same (bringing_lines s.extract.draft l)) e
 
-  pub intermediate_taken : (l : Location) → next_stage s.extract.stage IsIntermediate false ≡ Some Running → admitted s (Intermediate l) ≡ judged (bringing_lines s.extract.draft l ++ room_lines s.extract.taken) (moved s.extract Running (bringing (λ r. with_call r l) s.extract.draft) [])
+  pub intermediate_taken : (l : Location) → next_stage s.extract.stage IsIntermediate false ≡ Some Running → admitted s (Intermediate l) ≡ judged (call_row_lines s.extract.draft l s.extract.taken) (moved s.extract Running (bringing (λ r. with_call r l) s.extract.draft) [])
   unfolding located
   intermediate_taken l st =
       let e : after s.extract (Intermediate l) ≡ moved s.extract Running (bringing (λ r. with_call r l) s.extract.draft) [] = rw st refl in
       judged_same (content_lines s (Intermediate l)) (bringing_lines s.extract.draft l ++ room_lines s.extract.taken) (after s.extract (Intermediate l)) (moved s.extract Running (bringing (λ r. with_call r l) s.extract.draft) []) (located_same (bringing_lines s.extract.draft l)) e
 
-  pub terminus_taken : (l : Location) → next_stage s.extract.stage IsTerminus false ≡ Some Between → admitted s (Terminus l) ≡ judged (bringing_lines s.extract.draft l ++ room_lines s.extract.taken) (moved s.extract Between s.extract.draft (bringing (λ r. with_destination r l.tiploc) (bringing (λ r. with_call r l) s.extract.draft) ∷ []))
+  pub terminus_taken : (l : Location) → next_stage s.extract.stage IsTerminus false ≡ Some Between → admitted s (Terminus l) ≡ judged (call_row_lines s.extract.draft l s.extract.taken) (moved s.extract Between s.extract.draft (ended_by l s.extract.draft ∷ []))
   unfolding located
   terminus_taken l st =
-      let e : after s.extract (Terminus l) ≡ moved s.extract Between s.extract.draft (bringing (λ r. with_destination r l.tiploc) (bringing (λ r. with_call r l) s.extract.draft) ∷ []) = rw st refl in
-      judged_same (content_lines s (Terminus l)) (bringing_lines s.extract.draft l ++ room_lines s.extract.taken) (after s.extract (Terminus l)) (moved s.extract Between s.extract.draft (bringing (λ r. with_destination r l.tiploc) (bringing (λ r. with_call r l) s.extract.draft) ∷ [])) (located_same (bringing_lines s.extract.draft l)) e
+      let e : after s.extract (Terminus l) ≡ moved s.extract Between s.extract.draft (ended_by l s.extract.draft ∷ []) = rw st refl in
+      judged_same (content_lines s (Terminus l)) (bringing_lines s.extract.draft l ++ room_lines s.extract.taken) (after s.extract (Terminus l)) (moved s.extract Between s.extract.draft (ended_by l s.extract.draft ∷ [])) (located_same (bringing_lines s.extract.draft l)) e
 
 -- a row of each identity, from the stages that take it
 module _ (s : Standing) (i : Identity) (row : List ℕ) (stage next : Stage) (at : s.extract.stage ≡ stage) where
@@ -88,13 +88,13 @@ module _ (s : Standing) (i : Identity) (row : List ℕ) (stage next : Stage) (at
 pub operator_row : (s : Standing) (i : Identity) (row o : List ℕ) → s.extract.stage ≡ Begun → i ≡ BasicExtra → operator_in row ≡ Ok o → taken_by s i row ≡ judged (room_lines s.extract.taken) (moved s.extract Extra (bringing (λ r. with_operator r o) s.extract.draft) [])
 operator_row s i row o at e read = in_place s i row Begun Extra at BasicExtra (Operator o) e refl (ap (λ x. then x (λ v. Ok (Operator v))) read) ∙ operator_taken s o at
 
-pub origin_row : (s : Standing) (i : Identity) (row : List ℕ) (l : Location) (stage : Stage) → s.extract.stage ≡ stage → i ≡ IsOrigin → is_misplaced stage IsOrigin ≡ false → next_stage stage IsOrigin false ≡ Some Running → origin_in row ≡ Ok l → taken_by s i row ≡ judged (bringing_lines s.extract.draft l ++ room_lines s.extract.taken) (moved s.extract Running (bringing (λ r. with_call r l) s.extract.draft) [])
+pub origin_row : (s : Standing) (i : Identity) (row : List ℕ) (l : Location) (stage : Stage) → s.extract.stage ≡ stage → i ≡ IsOrigin → is_misplaced stage IsOrigin ≡ false → next_stage stage IsOrigin false ≡ Some Running → origin_in row ≡ Ok l → taken_by s i row ≡ judged (call_row_lines s.extract.draft l s.extract.taken) (moved s.extract Running (bringing (λ r. with_call r l) s.extract.draft) [])
 origin_row s i row l stage at e placed step read = in_place s i row stage Running at IsOrigin (Origin l) e placed (ap (λ x. then x (λ v. Ok (Origin v))) read) ∙ origin_taken s l (goes s i row stage Running at IsOrigin step)
 
-pub intermediate_row : (s : Standing) (i : Identity) (row : List ℕ) (l : Location) (stage : Stage) → s.extract.stage ≡ stage → i ≡ IsIntermediate → is_misplaced stage IsIntermediate ≡ false → next_stage stage IsIntermediate false ≡ Some Running → intermediate_in row ≡ Ok l → taken_by s i row ≡ judged (bringing_lines s.extract.draft l ++ room_lines s.extract.taken) (moved s.extract Running (bringing (λ r. with_call r l) s.extract.draft) [])
+pub intermediate_row : (s : Standing) (i : Identity) (row : List ℕ) (l : Location) (stage : Stage) → s.extract.stage ≡ stage → i ≡ IsIntermediate → is_misplaced stage IsIntermediate ≡ false → next_stage stage IsIntermediate false ≡ Some Running → intermediate_in row ≡ Ok l → taken_by s i row ≡ judged (call_row_lines s.extract.draft l s.extract.taken) (moved s.extract Running (bringing (λ r. with_call r l) s.extract.draft) [])
 intermediate_row s i row l stage at e placed step read = in_place s i row stage Running at IsIntermediate (Intermediate l) e placed (ap (λ x. then x (λ v. Ok (Intermediate v))) read) ∙ intermediate_taken s l (goes s i row stage Running at IsIntermediate step)
 
-pub terminus_row : (s : Standing) (i : Identity) (row : List ℕ) (l : Location) → s.extract.stage ≡ Running → i ≡ IsTerminus → terminus_in row ≡ Ok l → taken_by s i row ≡ judged (bringing_lines s.extract.draft l ++ room_lines s.extract.taken) (moved s.extract Between s.extract.draft (bringing (λ r. with_destination r l.tiploc) (bringing (λ r. with_call r l) s.extract.draft) ∷ []))
+pub terminus_row : (s : Standing) (i : Identity) (row : List ℕ) (l : Location) → s.extract.stage ≡ Running → i ≡ IsTerminus → terminus_in row ≡ Ok l → taken_by s i row ≡ judged (call_row_lines s.extract.draft l s.extract.taken) (moved s.extract Between s.extract.draft (ended_by l s.extract.draft ∷ []))
 terminus_row s i row l at e read = in_place s i row Running Between at IsTerminus (Terminus l) e refl (ap (λ x. then x (λ v. Ok (Terminus v))) read) ∙ terminus_taken s l (goes s i row Running Between at IsTerminus refl)
 
 -- what was told by one rule was told by an equal one

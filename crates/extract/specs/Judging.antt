@@ -1,40 +1,41 @@
 -- Why a row that was read is turned away.
-use Rattle.std.specs.Prelude.{◌≡◌, ℕ, Bool, true, false, cond, not, ◌&&◌, ◌||◌, List, [], ◌∷◌, ◌++◌, length, is_some, Some, None, Ok, Err, Result, ◌==◌, nat_le}
+use Rattle.std.specs.Prelude.{◌≡◌, ℕ, Bool, true, false, cond, not, ◌&&◌, ◌||◌, List, [], ◌∷◌, ◌++◌, length, Some, None, Ok, Err, Result, nat_le}
 use Rattle.std.specs.Str.{bytes_eq}
 use Rattle.forms.specs.declared.letters.Coverage.{Coverage}
 use Rattle.forms.specs.declared.letters.Coverage.TheVariants.{Full, Update}
 use Rattle.cif.specs.declared.content.Header.{Header as Heading}
 use Rattle.cif.specs.declared.content.BasicSchedule.{BasicSchedule}
 use Rattle.cif.specs.declared.content.Change.{Change as Asked}
-use Rattle.cif.specs.declared.content.Change.TheVariants.{New as AsksNew, Revise as AsksRevise, Delete as AsksDelete}
+use Rattle.cif.specs.declared.content.Change.TheVariants.{New as AsksNew}
+use Rattle.cif.specs.declared.content.Location.{Location}
 use Rattle.cif.specs.declared.content.Content.{Content}
-use Rattle.cif.specs.declared.content.Content.TheVariants.{Header, Schedule, Operator, Origin, Intermediate, Terminus, Unread}
+use Rattle.cif.specs.declared.content.Content.TheVariants.{Header, Schedule, Origin, Intermediate, Terminus}
 use Rattle.cif.specs.declared.identity.Identity.{Identity}
 use Rattle.cif.specs.declared.identity.Identity.TheVariants.{Trailer, Header as IsHeader}
 use Rattle.cif.specs.declared.refusal.Refusal.TheVariants.{OutOfPlace, ReferenceMismatch, KeyPresent, KeyAbsent, TooManyRows, StoreFull}
 use Rattle.cif.specs.declared.refusal.ColumnFault.{ColumnFault}
 use Rattle.cif.specs.Refusals.{TableLine, line, uppermost, missing, fault_at, then}
 use Rattle.cif.specs.Reading.{content_in}
-use Rattle.schedule.specs.declared.record.Record.{Record}
+use Rattle.schedule.specs.declared.transaction.Change.{Change}
 use Rattle.schedule.specs.Records.{seven_blanks}
 use Rattle.schedule.specs.Building.{bringing_lines}
-use Rattle.timetable.specs.Timetables.{schedule_of}
-use Rattle.overlay.specs.Overlays.{done_all}
+use Rattle.timetable.specs.Timetables.{Meaning, is_full}
+use Rattle.timetable.specs.Laws.{has_key}
+use Rattle.overlay.specs.Overlays.{with_done}
 use Rattle.extract.specs.declared.stage.Stage.{Stage}
 use Rattle.extract.specs.declared.stage.Stage.TheVariants.{Idle}
 use Rattle.extract.specs.Stages.{next_stage, is_identity, is_stage}
 use Rattle.extract.specs.Progress.{Progress, key_in, identity_for, after}
 
--- what a row is judged by: the extract so far, the store's map and capacity, and the reference in force
+-- what a row is judged by: the extract so far, what the store means, and the reference in force
 pub record Standing : Type 0 where
   pub extract : Progress
-  pub map : List Record
-  pub capacity : ℕ
+  pub store : Meaning
   pub reference : List ℕ
 
--- the store's map with the pending transactions done to it in order
-abbrev pub overlay_in : Standing → List Record
-overlay_in s = done_all s.map s.extract.changes
+-- the overlay: the store with the pending transactions done to it in order
+abbrev pub overlay_in : Standing → Meaning
+overlay_in s = with_done s.store s.extract.changes
 
 -- whether a reference is blank
 abbrev pub is_blank_reference : List ℕ → Bool
@@ -53,66 +54,38 @@ mismatches in_force h =
 -- an HD whose references do not fit
 abbrev pub references_fail : Standing → Content → Bool
 references_fail s (Header h) = mismatches s.reference h
-references_fail s (Schedule b) = false
-references_fail s (Operator o) = false
-references_fail s (Origin l) = false
-references_fail s (Intermediate l) = false
-references_fail s (Terminus l) = false
-references_fail s (Unread i) = false
+references_fail s _ = false
 
 -- a BS asks for a new schedule, N
 abbrev pub asks_new : Asked → Bool
 asks_new (AsksNew d) = true
-asks_new (AsksRevise d) = false
-asks_new AsksDelete = false
+asks_new _ = false
 
 -- a BS with N that passes a test
 abbrev pub is_new_with : (BasicSchedule → Bool) → Content → Bool
-is_new_with test (Header h) = false
 is_new_with test (Schedule b) = asks_new b.change && test b
-is_new_with test (Operator o) = false
-is_new_with test (Origin l) = false
-is_new_with test (Intermediate l) = false
-is_new_with test (Terminus l) = false
-is_new_with test (Unread i) = false
+is_new_with test _ = false
 
 -- a BS with R or D that passes a test
 abbrev pub is_old_with : (BasicSchedule → Bool) → Content → Bool
-is_old_with test (Header h) = false
 is_old_with test (Schedule b) = not (asks_new b.change) && test b
-is_old_with test (Operator o) = false
-is_old_with test (Origin l) = false
-is_old_with test (Intermediate l) = false
-is_old_with test (Terminus l) = false
-is_old_with test (Unread i) = false
+is_old_with test _ = false
 
 -- the key of a BS is in the overlay
 abbrev pub is_there : Standing → BasicSchedule → Bool
-is_there s b = is_some (schedule_of (overlay_in s) (key_in b))
-
--- the overlay has as many keys as the store has room for
-abbrev pub is_full : Standing → Bool
-is_full s = length (overlay_in s) == s.capacity
+is_there s b = has_key (overlay_in s).map (key_in b)
 
 -- a location is judged by the schedule that is being read: a 49th kept call, a third kept call at one TIPLOC
 abbrev pub location_lines : Standing → Content → List TableLine
-location_lines s (Header h) = []
-location_lines s (Schedule b) = []
-location_lines s (Operator o) = []
 location_lines s (Origin l) = bringing_lines s.extract.draft l
 location_lines s (Intermediate l) = bringing_lines s.extract.draft l
 location_lines s (Terminus l) = bringing_lines s.extract.draft l
-location_lines s (Unread i) = []
+location_lines s _ = []
 
 -- a BS comes after 32 transactions
 abbrev pub past_transactions : Standing → Content → Bool
-past_transactions s (Header h) = false
 past_transactions s (Schedule b) = nat_le 32 (length s.extract.changes)
-past_transactions s (Operator o) = false
-past_transactions s (Origin l) = false
-past_transactions s (Intermediate l) = false
-past_transactions s (Terminus l) = false
-past_transactions s (Unread i) = false
+past_transactions s _ = false
 
 -- 9,999 rows are taken and this is not ZZ
 abbrev pub past_rows : Standing → Content → Bool
@@ -131,6 +104,10 @@ change_lines new there many full =
 abbrev pub room_lines : ℕ → List TableLine
 room_lines taken = line TooManyRows 1 (nat_le 9999 taken) ∷ []
 
+-- the lines of a row with a location that a transaction takes, where so many rows are taken
+abbrev pub call_row_lines : Change → Location → ℕ → List TableLine
+call_row_lines draft l taken = bringing_lines draft l ++ room_lines taken
+
 -- the lines of the table that ask for the extract, the overlay or the reference: 7 to 13
 abbrev pub content_lines : Standing → Content → List TableLine
 content_lines s c =
@@ -139,7 +116,7 @@ content_lines s c =
     ∷ line KeyAbsent 4 (is_old_with (λ b. not (is_there s b)) c)
     ∷ location_lines s c
     ++ (line TooManyRows 1 (past_rows s c || past_transactions s c)
-    ∷ line StoreFull 1 (is_new_with (λ b. is_full s) c)
+    ∷ line StoreFull 1 (is_new_with (λ b. is_full (overlay_in s)) c)
     ∷ [])
 
 -- a value, unless a line of a table holds: the uppermost is told

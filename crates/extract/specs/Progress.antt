@@ -5,6 +5,7 @@ use Rattle.cif.specs.declared.content.BasicSchedule.{BasicSchedule}
 use Rattle.cif.specs.declared.content.Change.{Change as Asked}
 use Rattle.cif.specs.declared.content.Change.TheVariants.{New as AsksNew, Revise as AsksRevise, Delete as AsksDelete}
 use Rattle.cif.specs.declared.content.Running.{Running as Days}
+use Rattle.cif.specs.declared.content.Location.{Location}
 use Rattle.cif.specs.declared.content.Content.{Content}
 use Rattle.cif.specs.declared.content.Content.TheVariants.{Header, Schedule, Operator, Origin, Intermediate, Terminus, Unread}
 use Rattle.cif.specs.declared.identity.Identity.{Identity}
@@ -49,9 +50,8 @@ asked_by b AsksDelete = Delete (key_in b)
 
 -- whether a BS row asks for a deletion
 abbrev pub is_deletion : Asked → Bool
-is_deletion (AsksNew d) = false
-is_deletion (AsksRevise d) = false
 is_deletion AsksDelete = true
+is_deletion _ = false
 
 -- a BS with D or letter C has no further rows
 abbrev pub is_brief : BasicSchedule → Bool
@@ -59,13 +59,8 @@ is_brief b = cond (is_deletion b.change) true (is_cancellation b.stp)
 
 -- whether a row is such a BS
 abbrev pub brief_in : Content → Bool
-brief_in (Header h) = false
 brief_in (Schedule b) = is_brief b
-brief_in (Operator o) = false
-brief_in (Origin l) = false
-brief_in (Intermediate l) = false
-brief_in (Terminus l) = false
-brief_in (Unread i) = false
+brief_in _ = false
 
 -- the identity of a row, by what it holds
 abbrev pub identity_for : Content → Identity
@@ -80,32 +75,25 @@ identity_for (Unread i) = i
 -- the file reference after a row: an HD brings it
 abbrev pub current_after : Progress → Content → List ℕ
 current_after p (Header h) = h.current
-current_after p (Schedule b) = p.current
-current_after p (Operator o) = p.current
-current_after p (Origin l) = p.current
-current_after p (Intermediate l) = p.current
-current_after p (Terminus l) = p.current
-current_after p (Unread i) = p.current
+current_after p _ = p.current
 
 -- the transaction that is being read, after a row: a BS begins it, a BX names the operator, LO and LI may add a call
 abbrev pub draft_after : Progress → Content → Change
-draft_after p (Header h) = p.draft
 draft_after p (Schedule b) = cond (is_brief b) p.draft (asked_by b b.change)
 draft_after p (Operator o) = bringing (λ r. with_operator r o) p.draft
 draft_after p (Origin l) = bringing (λ r. with_call r l) p.draft
 draft_after p (Intermediate l) = bringing (λ r. with_call r l) p.draft
-draft_after p (Terminus l) = p.draft
-draft_after p (Unread i) = p.draft
+draft_after p _ = p.draft
 
--- the transaction that joins at a row, if any: at its BS with D or letter C, otherwise at its LT, which may add a call and names the destination
+-- a transaction ended by its LT, which may add a call and names the destination
+abbrev pub ended_by : Location → Change → Change
+ended_by l draft = bringing (λ r. with_destination r l.tiploc) (bringing (λ r. with_call r l) draft)
+
+-- the transaction that joins at a row, if any: at its BS with D or letter C, otherwise at its LT
 abbrev pub joining_at : Progress → Content → List Change
-joining_at p (Header h) = []
 joining_at p (Schedule b) = cond (is_brief b) (asked_by b b.change ∷ []) []
-joining_at p (Operator o) = []
-joining_at p (Origin l) = []
-joining_at p (Intermediate l) = []
-joining_at p (Terminus l) = bringing (λ r. with_destination r l.tiploc) (bringing (λ r. with_call r l) p.draft) ∷ []
-joining_at p (Unread i) = []
+joining_at p (Terminus l) = ended_by l p.draft ∷ []
+joining_at p _ = []
 
 -- after a row more
 abbrev pub after : Progress → Content → Progress

@@ -3,10 +3,10 @@ use Rattle.std.specs.Prelude.{ℕ, ◌+◌, Bool, true, List, ◌++◌}
 use Rattle.cif.specs.declared.content.BasicSchedule.{BasicSchedule}
 use Rattle.cif.specs.declared.content.Change.{Change as Asked}
 use Rattle.cif.specs.declared.content.Change.TheVariants.{New as AsksNew, Revise as AsksRevise, Delete as AsksDelete}
-use Rattle.schedule.specs.declared.record.Record.{Record}
 use Rattle.schedule.specs.declared.transaction.Change.{Change}
 use Rattle.schedule.specs.Records.{in_range}
 use Rattle.schedule.specs.Transactions.{plain_of}
+use Rattle.timetable.specs.Timetables.{Meaning}
 use Rattle.overlay.specs.declared.overlay.Overlay.{Overlay}
 use Rattle.overlay.specs.Overlays.{pending_in}
 use Rattle.extract.specs.declared.extract.Extract.{Extract}
@@ -21,15 +21,15 @@ seen e changes = record { stage = e.stage; taken = e.taken; current = e.current;
 -- a row more, by the stage after it, the transaction that is then being read, and those that join at it
 abbrev pub moved : Progress → Stage → Change → List Change → Progress
 moved p stage draft joining =
-    record { stage = stage; taken = p.taken + 1; current = p.current; draft = draft; changes = p.changes ++ joining }
+    record p { stage = stage; taken = p.taken + 1; draft = draft; changes = p.changes ++ joining }
 
--- what a row is judged by, for a map, a capacity and what is pending
-abbrev pub judged_at : List Record → ℕ → Extract → List Change → List ℕ → Standing
-judged_at map capacity e changes reference = record { extract = seen e changes; map = map; capacity = capacity; reference = reference }
+-- what a row is judged by, for what a store means and what is pending
+abbrev pub judged_at : Meaning → Extract → List Change → List ℕ → Standing
+judged_at store e changes reference = record { extract = seen e changes; store = store; reference = reference }
 
 -- the same over a store, with what is pending over it
-abbrev pub standing : {S : Type 0} → (S → List Record) → (S → ℕ) → Extract → Overlay S → List ℕ → Standing
-standing map capacity e o reference = judged_at (map o.store) (capacity o.store) e (pending_in o.pending) reference
+abbrev pub standing : {S : Type 0} → (S → Meaning) → Extract → Overlay S → List ℕ → Standing
+standing meaning e o reference = judged_at (meaning o.store) e (pending_in o.pending) reference
 
 -- the schedule that a BS begins, if it begins one, is in range
 abbrev pub range_in : BasicSchedule → Asked → Bool

@@ -72,23 +72,17 @@ next_stage s i brief = step_in (steps (cond brief Between Begun)) s i
 
 -- a schedule is being read
 abbrev pub is_reading : Stage → Bool
-is_reading Idle = false
-is_reading Between = false
 is_reading Begun = true
 is_reading Extra = true
 is_reading Running = true
 is_reading Changed = true
-is_reading Complete = false
+is_reading _ = false
 
 -- no row is taken when idle, and otherwise at most 9,999, and ZZ after them
 abbrev pub most_rows : Stage → ℕ
 most_rows Idle = 0
-most_rows Between = 9999
-most_rows Begun = 9999
-most_rows Extra = 9999
-most_rows Running = 9999
-most_rows Changed = 9999
 most_rows Complete = 10000
+most_rows _ = 9999
 
 -- at most 32 transactions are pending, and fewer while one is being read
 abbrev pub has_room : Stage → ℕ → Bool

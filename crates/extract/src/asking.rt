@@ -1,14 +1,15 @@
 // What a row asks for, and whether it may have it.
-ghost use Rattle.std.specs.Prelude.{◌≡◌, ℕ, ◌<◌, Bool, true, false, ◌||◌, List, [], ◌∷◌, ◌++◌, length, is_some, is_ok, Some, None, MatchOption, MatchResult, ◌==◌, nat_le};
+ghost use Rattle.std.specs.Prelude.{◌≡◌, ℕ, ◌<◌, Bool, true, false, ◌||◌, List, ◌++◌, length, MatchOption, IfOk, OnOk, nat_le};
 ghost use Rattle.cif.specs.declared.content.Content.TheVariants.{Schedule as OfSchedule};
 ghost use Rattle.cif.specs.Refusals.{uppermost, fault_of};
-ghost use Rattle.schedule.specs.Building.{begun_with, with_call, bringing, bringing_lines};
+ghost use Rattle.schedule.specs.Building.{begun_with, with_call, bringing};
 ghost use Rattle.schedule.specs.Records.{in_range};
 ghost use Rattle.schedule.specs.Transactions.{plain_of};
-ghost use Rattle.timetable.specs.Timetables.{schedule_of};
+ghost use Rattle.timetable.specs.Timetables.{is_full};
+ghost use Rattle.timetable.specs.Laws.{has_key};
 ghost use Rattle.overlay.specs.Overlays.{overlay_of, pending_in};
 ghost use Rattle.extract.specs.Progress.{key_in, asked_by, is_brief};
-ghost use Rattle.extract.specs.Judging.{content_lines, room_lines, change_lines};
+ghost use Rattle.extract.specs.Judging.{content_lines, room_lines, call_row_lines, change_lines};
 ghost use Rattle.extract.specs.Seen.{standing, range_in};
 
 use crate::extract::Extract;
@@ -22,10 +23,10 @@ use schedule::schedule::Schedule;
 use schedule::transaction::Transaction;
 use timetable::Store;
 
-// How many rows of an extract are taken before its ZZ, HD included.
+//// How many rows of an extract are taken before its ZZ, HD included.
 pub const ROWS: u16 = 9_999;
 
-// The key of a BS row.
+//// The key of a BS row.
 pub fn key_in(b: &BasicSchedule) -> Key
     ensures { result ≡ key_in b.now }
 {
@@ -43,9 +44,12 @@ pub(crate) fn is_brief(b: &BasicSchedule) -> bool
     matches!(b.change, Change::Delete) || b.stp == Stp::Cancellation
 }
 
-// The schedule that a BS row begins.
+// The schedule that a BS row begins, if it is in range.
 fn begun(key: Key, days: Running) -> Option<Schedule>
-    ensures { MatchOption result (in_range (begun_with key days.to.0 days.days days.train) ≡ false) (λ s. s.plain ≡ begun_with key days.to.0 days.days days.train) }
+    ensures {
+        MatchOption result (in_range (begun_with key days.to.0 days.days days.train) ≡ false)
+            (λ s. s.plain ≡ begun_with key days.to.0 days.days days.train)
+    }
 {
     let Running { to, days, train } = days;
     Schedule::begun(key, to.0, days, train)
@@ -53,7 +57,10 @@ fn begun(key: Key, days: Running) -> Option<Schedule>
 
 // The transaction that a BS row asks for, if it is in range.
 fn transaction_in(b: &BasicSchedule) -> Option<Transaction>
-    ensures { MatchOption result (range_in b.now b.now.change ≡ false) (λ t. plain_of t ≡ asked_by b.now b.now.change) }
+    ensures {
+        MatchOption result (range_in b.now b.now.change ≡ false)
+            (λ t. plain_of t ≡ asked_by b.now b.now.change)
+    }
 {
     let key = key_in(b);
     match b.change {
@@ -66,7 +73,8 @@ fn transaction_in(b: &BasicSchedule) -> Option<Transaction>
 impl Extract {
     // There is room for a row more that is not ZZ.
     pub(crate) fn has_room(&self) -> Result<(), ColumnFault>
-        ensures { MatchResult result (λ _. (uppermost (room_lines self.now.taken) ≡ None) × (self.now.taken < 9999)) (λ e. uppermost (room_lines self.now.taken) ≡ Some e) }
+        ensures told { fault_of result ≡ uppermost (room_lines self.now.taken) }
+        ensures room { OnOk result (self.now.taken < 9999) }
     {
         if self.taken >= ROWS {
             return Err(Refusal::TooManyRows.at(1));
@@ -76,9 +84,15 @@ impl Extract {
 
     // The transaction that is being read, with a location's call.
     pub(crate) fn called(&self, location: Location) -> Result<Transaction, ColumnFault>
-        ensures { MatchResult result
-            (λ t. (plain_of t ≡ bringing (λ s. with_call s location) (plain_of self.now.draft)) × (uppermost (bringing_lines (plain_of self.now.draft) location ++ room_lines self.now.taken) ≡ None) × (self.now.taken < 9999))
-            (λ e. uppermost (bringing_lines (plain_of self.now.draft) location ++ room_lines self.now.taken) ≡ Some e) }
+        ensures told {
+            fault_of result
+            ≡ uppermost (call_row_lines (plain_of self.now.draft) location self.now.taken)
+        }
+        ensures call {
+            IfOk result (λ t. plain_of t
+                ≡ bringing (λ s. with_call s location) (plain_of self.now.draft))
+        }
+        ensures room { OnOk result (self.now.taken < 9999) }
     {
         let called = self.draft.with_call(location)?;
         self.has_room()?;
@@ -92,8 +106,14 @@ impl Extract {
         key: Key,
         new: bool,
     ) -> Result<(), ColumnFault>
-        ensures told { fault_of result ≡ uppermost (change_lines new (is_some (schedule_of (overlay_of S.meaning overlay.old) key)) (nat_le 9999 self.now.taken || nat_le 32 (length (pending_in overlay.old.pending))) (length (overlay_of S.meaning overlay.old) == (S.meaning overlay.old.store).capacity)) }
-        ensures room { is_ok result ≡ true → (self.now.taken < 9999) × (length (pending_in overlay.old.pending) < 32) }
+        ensures told {
+            fault_of result ≡ uppermost (change_lines new
+                (has_key (overlay_of S.meaning overlay.old).map key)
+                (nat_le 9999 self.now.taken || nat_le 32 (length (pending_in overlay.old.pending)))
+                (is_full (overlay_of S.meaning overlay.old)))
+        }
+        ensures rows { OnOk result (self.now.taken < 9999) }
+        ensures room { OnOk result (length (pending_in overlay.old.pending) < 32) }
         ensures same { overlay.new ≡ overlay.old }
     {
         let there = overlay.holds(key);
@@ -119,10 +139,14 @@ impl Extract {
         b: &BasicSchedule,
     ) -> Result<Transaction, ColumnFault>
         requires range { range_in b.now b.now.change ≡ true }
-        ensures told { (reference : List ℕ) → MatchResult result
-            (λ t. (plain_of t ≡ asked_by b.now b.now.change) × (uppermost (content_lines (standing S.meaning self.now overlay.old reference) (OfSchedule b.now)) ≡ None))
-            (λ e. uppermost (content_lines (standing S.meaning self.now overlay.old reference) (OfSchedule b.now)) ≡ Some e) }
-        ensures room { is_ok result ≡ true → (self.now.taken < 9999) × (length (pending_in overlay.old.pending) < 32) }
+        ensures told {
+            (reference : List ℕ) → fault_of result
+            ≡ uppermost (content_lines
+                (standing S.meaning self.now overlay.old reference) (OfSchedule b.now))
+        }
+        ensures transaction { IfOk result (λ t. plain_of t ≡ asked_by b.now b.now.change) }
+        ensures rows { OnOk result (self.now.taken < 9999) }
+        ensures room { OnOk result (length (pending_in overlay.old.pending) < 32) }
         ensures same { overlay.new ≡ overlay.old }
     {
         self.may_change(overlay, key_in(b), matches!(b.change, Change::New(_)))?;

@@ -5,7 +5,7 @@ ghost use Rattle.extract.specs.Stages.{most_rows};
 use crate::stage::Stage;
 use schedule::transaction::Transaction;
 
-// Its stage, the number of rows taken, the current file reference of its header, and the transaction that is being read.
+/// Its stage, the number of rows taken, the current file reference of its header, and the transaction that is being read.
 #[derive(Clone, Copy)]
 pub struct Extract {
     pub(crate) stage: Stage,

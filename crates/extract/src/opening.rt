@@ -1,8 +1,8 @@
 // How an extract begins and ends, and what can be asked of it.
-ghost use Rattle.std.specs.Prelude.{◌≡◌, ℕ, Bool, true, false, List, [], ◌∷◌, is_ok};
+ghost use Rattle.std.specs.Prelude.{◌≡◌, ℕ, Bool, true, List, [], OnOk, OnErr};
 ghost use Rattle.cif.specs.Refusals.{uppermost, fault_of};
-ghost use Rattle.schedule.specs.declared.record.Record.{Record};
 ghost use Rattle.schedule.specs.declared.transaction.Change.{Change};
+ghost use Rattle.timetable.specs.Timetables.{Meaning};
 ghost use Rattle.extract.specs.Stages.{has_room};
 ghost use Rattle.extract.specs.Progress.{idle};
 ghost use Rattle.extract.specs.Judging.{mismatches, opened_by, idle_lines, Told};
@@ -31,7 +31,7 @@ fn is_mismatch(header: &Header, reference: &[u8; 7]) -> bool
 }
 
 impl Extract {
-    // No extract is open.
+    /// No extract is open.
     pub fn new() -> Extract
         ensures { seen result [] ≡ idle }
     {
@@ -49,25 +49,32 @@ impl Extract {
         self.stage
     }
 
-    // How many rows of the open extract were taken, HD included.
+    /// How many rows of the open extract were taken, HD included.
     pub fn rows_taken(&self) -> u16
         ensures { result ≡ self.now.taken }
     {
         self.taken
     }
 
-    // The current file reference of the open extract.
+    /// The current file reference of the open extract.
     pub fn current(&self) -> [u8; 7]
         ensures { result ≡ self.now.current }
     {
         self.current
     }
 
-    // Opens an extract with its HD row over the reference in force, or says why it is turned away.
+    /// Opens an extract with its HD row over the reference in force, or says why it is turned away.
     pub fn open(&mut self, row: &Row, reference: &[u8; 7]) -> Result<(), ColumnFault>
-        ensures told { (m : List Record) (c : ℕ) (cs : List Change) → Told (seen self.new cs) (opened_by (judged_at m c self.old cs reference.now) row.now.identity row.now.bytes) result }
-        ensures room { (n : ℕ) → has_room self.old.stage n ≡ true → has_room self.new.stage n ≡ true }
-        ensures unchanged { is_ok result ≡ false → self.new ≡ self.old }
+        ensures told {
+            (store : Meaning) (cs : List Change) → Told (seen self.new cs)
+                (opened_by (judged_at store self.old cs reference.now)
+                    row.now.identity row.now.bytes)
+                result
+        }
+        ensures room {
+            (n : ℕ) → has_room self.old.stage n ≡ true → has_room self.new.stage n ≡ true
+        }
+        ensures unchanged { OnErr result (self.new ≡ self.old) }
     {
         match (self.stage, row.identity()) {
             (Stage::Idle, Identity::Header) => {}
@@ -86,11 +93,11 @@ impl Extract {
         Ok(())
     }
 
-    // Drops the open extract, or says that there is none.
+    /// Drops the open extract, or says that there is none.
     pub fn abandon(&mut self) -> Result<(), ColumnFault>
         ensures told { fault_of result ≡ uppermost (idle_lines self.old.stage) }
-        ensures dropped { is_ok result ≡ true → seen self.new [] ≡ idle }
-        ensures unchanged { is_ok result ≡ false → self.new ≡ self.old }
+        ensures dropped { OnOk result (seen self.new [] ≡ idle) }
+        ensures unchanged { OnErr result (self.new ≡ self.old) }
     {
         if self.stage == Stage::Idle {
             return Err(Refusal::OutOfPlace.at(0));

@@ -1,5 +1,5 @@
 // What a row does to the open extract.
-ghost use Rattle.std.specs.Prelude.{◌≡◌, ℕ, ◌≤◌, List, Bool, true, false, length, is_ok};
+ghost use Rattle.std.specs.Prelude.{◌≡◌, ℕ, ◌≤◌, List, Bool, true, length, OnErr};
 ghost use Rattle.overlay.specs.Overlays.{pending_in};
 ghost use Rattle.extract.specs.Stages.{has_room};
 ghost use Rattle.extract.specs.Judging.{taken_by, Told};
@@ -14,11 +14,17 @@ use overlay::overlay::Overlay;
 use timetable::Store;
 
 impl Extract {
-    // Takes a row into the extract, or says why it is turned away. It is judged by the stage and the row's identity together.
+    /// Takes a row into the extract, or says why it is turned away. It is judged by the stage and the row's identity together.
     pub fn take<S: Store>(&mut self, overlay: &mut Overlay<S>, row: &Row) -> Result<(), ColumnFault>
-        ensures told { (reference : List ℕ) → has_room self.old.stage (length (pending_in overlay.old.pending)) ≡ true → Told (seen self.new (pending_in overlay.new.pending)) (taken_by (standing S.meaning self.old overlay.old reference) row.now.identity row.now.bytes) result }
-        ensures room { has_room self.old.stage (length (pending_in overlay.old.pending)) ≡ true → has_room self.new.stage (length (pending_in overlay.new.pending)) ≡ true }
-        ensures unchanged { is_ok result ≡ false → (self.new ≡ self.old) × (overlay.new ≡ overlay.old) }
+        requires { has_room self.old.stage (length (pending_in overlay.old.pending)) ≡ true }
+        ensures told {
+            (reference : List ℕ) → Told (seen self.new (pending_in overlay.new.pending))
+                (taken_by (standing S.meaning self.old overlay.old reference)
+                    row.now.identity row.now.bytes)
+                result
+        }
+        ensures room { has_room self.new.stage (length (pending_in overlay.new.pending)) ≡ true }
+        ensures unchanged { OnErr result ((self.new ≡ self.old) × (overlay.new ≡ overlay.old)) }
         ensures store { overlay.new.store ≡ overlay.old.store }
     {
         match (self.stage, row.identity()) {

@@ -1,5 +1,5 @@
 -- Transactions that may be done, one after another.
-use Rattle.std.proofs.Common.{◌≡◌, ◌≤◌, true, List, [], ◌∷◌, ◌++◌, length, refl, sym, ap, ◌∙◌, arith}
+use Rattle.std.proofs.Common.{◌≡◌, ℕ, zero, suc, ◌≤◌, true, List, [], ◌∷◌, ◌++◌, length, take, refl, sym, ap, ◌∙◌, arith}
 use Rattle.std.proofs.lemmas.Bool.{and_from}
 use Rattle.schedule.specs.declared.transaction.Change.{Change}
 use Rattle.schedule.specs.declared.transaction.Change.TheVariants.{New, Revise, Delete}
@@ -38,3 +38,9 @@ pub each_within : (t : Meaning) (cs : List Change) → IsMap t.map → IsWithinC
 each_within t [] is l h = l
 each_within t (c ∷ cs) is l h =
     each_within (record t { map = done_to t.map c }) cs (done_map t.map c is (permitted_lawful t c h.0)) (done_within t c is l h.0) h.1
+
+-- the first of them
+pub each_take : (t : Meaning) (k : ℕ) (cs : List Change) → EachMayBeDone t cs → EachMayBeDone t (take k cs)
+each_take t zero cs h = tt
+each_take t (suc k) [] h = tt
+each_take t (suc k) (c ∷ cs) h = (h.0, each_take (record t { map = done_to t.map c }) k cs h.1)

@@ -19,6 +19,16 @@ pub all_tried : RoomForAll
 all_tried t [] h = refl
 all_tried t (c ∷ cs) h = ap (λ x. after_tries x cs) (tries t c h.0) ∙ all_tried (record t { map = done_to t.map c }) cs h.1
 
+-- what finds no room changes no capacity either
+try_capacity : (t : Meaning) (c : Change) → (after_try t c).capacity ≡ t.capacity
+try_capacity t (New r) = refl
+try_capacity t (Revise r) = refl
+try_capacity t (Delete k) = refl
+
+pub tries_capacity : (t : Meaning) (cs : List Change) → (after_tries t cs).capacity ≡ t.capacity
+tries_capacity t [] = refl
+tries_capacity t (c ∷ cs) = tries_capacity (after_try t c) cs ∙ try_capacity t c
+
 -- each of lawful transactions is lawful
 pub lawful_at : (cs : List Change) (i : ℕ) (d : Change) → every_lawful cs ≡ true → i < length cs → is_lawful (get_or cs i d) ≡ true
 lawful_at [] i d h l = absurd (omega arith)

@@ -1,15 +1,14 @@
 // How transactions become pending, and cease to be.
-ghost use Rattle.std.specs.Prelude.{◌≡◌, Bool, true, false, [], ◌∷◌, ◌++◌, ◌≤◌, take, length, is_ok, nat_lt};
+ghost use Rattle.std.specs.Prelude.{◌≡◌, [], ◌∷◌, ◌++◌, ◌<◌, ◌≤◌, take, length};
 ghost use Rattle.schedule.specs.Transactions.{plain_of};
 ghost use Rattle.overlay.specs.Overlays.{pending_in};
 
-use crate::pending::{Changes, MOST, Pending};
-use ordered::table::Full;
+use crate::pending::{Changes, Pending};
 use schedule::schedule::Schedule;
 use schedule::transaction::{Change, Transaction};
 
 impl Pending {
-    // Nothing is pending.
+    /// Nothing is pending.
     pub fn new() -> Pending
         ensures { pending_in result ≡ [] }
     {
@@ -41,22 +40,17 @@ impl Pending {
         self.as_slice().len()
     }
 
-    // A transaction joins after the others, unless 32 are pending.
-    pub fn join(&mut self, transaction: Transaction) -> Result<(), Full>
-        ensures done { is_ok result ≡ nat_lt (length (pending_in self.old)) 32 }
-        ensures joined { is_ok result ≡ true → pending_in self.new ≡ pending_in self.old ++ plain_of transaction ∷ [] }
-        ensures unchanged { is_ok result ≡ false → self.new ≡ self.old }
+    /// A transaction joins after the others, of which there have to be fewer than 32.
+    pub fn join(&mut self, transaction: Transaction)
+        requires { length (pending_in self.old) < 32 }
+        ensures { pending_in self.new ≡ pending_in self.old ++ plain_of transaction ∷ [] }
     {
         let place = self.len;
-        if place >= MOST {
-            return Err(Full);
-        }
         self.slots[place] = transaction.into();
         self.len = place + 1;
-        Ok(())
     }
 
-    // Drops all that is pending.
+    /// Drops all that is pending.
     pub fn clear(&mut self)
         ensures { pending_in self.new ≡ [] }
     {

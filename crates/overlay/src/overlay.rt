@@ -1,7 +1,7 @@
 // A store with transactions pending over it.
 use crate::pending::Pending;
 
-// The store itself, and beside it what is pending.
+/// The store itself, and beside it what is pending.
 #[derive(Drop)]
 pub struct Overlay<S> {
     pub store: S,

@@ -4,7 +4,7 @@ ghost use Rattle.schedule.specs.Transactions.{every_lawful};
 
 use schedule::transaction::Change;
 
-// How many transactions can be pending.
+/// How many transactions can be pending.
 pub const MOST: usize = 32;
 
 #[derive(Clone, Copy)]

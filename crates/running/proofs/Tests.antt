@@ -7,7 +7,8 @@ use Rattle.schedule.specs.declared.record.Record.{Record}
 use Rattle.schedule.specs.Keys.{key_before}
 use Rattle.schedule.specs.Records.{key_of}
 use Rattle.timetable.specs.Timetables.{schedule_of}
-use Rattle.running.specs.Running.{Holds, Candidate, InForce, covering, outranking}
+use Rattle.running.specs.Running.{Holds, Candidate, InForce, covering}
+use Rattle.running.specs.Walking.{outranking}
 use Rattle.running.specs.Worked.{Worked, week, overlay, cancelled, permanent, later, short}
 use Rattle.running.proofs.Forces.{some_is, none_some, covers_it}
 use Rattle.running.proofs.Walks.{outranking_true}

@@ -10,7 +10,8 @@ use Rattle.schedule.specs.Orders.{key_irreflexive, key_transitive, key_total}
 use Rattle.timetable.specs.Timetables.{not_before, IsMap}
 use Rattle.timetable.specs.Laws.{Has, has_key}
 use Rattle.timetable.proofs.Nexts.{Next, next, left, walk_falls}
-use Rattle.running.specs.Running.{Candidate, first_of, IsFirst}
+use Rattle.running.specs.Running.{Candidate}
+use Rattle.running.specs.Walking.{first_of, IsFirst}
 use Rattle.running.proofs.Forces.{some_is, none_some}
 use Rattle.running.proofs.Walks.{Walked, begin, held_has}
 

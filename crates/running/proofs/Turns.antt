@@ -10,7 +10,8 @@ use Rattle.schedule.specs.Records.{key_of}
 use Rattle.schedule.specs.Orders.{key_total}
 use Rattle.timetable.specs.Timetables.{schedule_of}
 use Rattle.timetable.proofs.Nexts.{Next, has_held, found_key}
-use Rattle.running.specs.Running.{Holds, Candidate, Outranks, InForce, covering, outranking, takes, held}
+use Rattle.running.specs.Running.{Holds, Candidate, Outranks, InForce, covering}
+use Rattle.running.specs.Walking.{outranking, takes, record_in}
 use Rattle.running.proofs.Forces.{same_held, covers_it, some_is, none_some}
 use Rattle.running.proofs.Walks.{Walked, held_has, outranking_true, outranking_false, outranks_trans, outranks_self}
 
@@ -89,7 +90,7 @@ module _ (m : List Record) (uid day : ℕ) (probe key nxt : Key) (h : Record) (b
       (cases_Bool (takes h day best))
 
 -- at the end, what was kept is in force
-pub ended : (m : List Record) (uid day : ℕ) (probe : Key) (best : Option Schedule) → Walked m uid day probe (held best) → ((s : Record) → Candidate m uid day s → key_before (key_of s) probe ≡ true)
+pub ended : (m : List Record) (uid day : ℕ) (probe : Key) (best : Option Schedule) → Walked m uid day probe (record_in best) → ((s : Record) → Candidate m uid day s → key_before (key_of s) probe ≡ true)
     → MatchOption best ((s : Record) → Candidate m uid day s → ⊥) (λ s. InForce m uid day s.plain)
 ended m uid day probe None w all = λ s c. w.none refl s c (all s c)
 ended m uid day probe (Some b) w all = record { candidate = w.has b.plain refl; first = λ s c. w.first b.plain refl s c (all s c) }

@@ -8,7 +8,8 @@ use Rattle.schedule.specs.declared.record.Record.{Record}
 use Rattle.schedule.specs.Keys.{rank_of, key_before}
 use Rattle.schedule.specs.Records.{key_of}
 use Rattle.timetable.specs.Laws.{Has}
-use Rattle.running.specs.Running.{Holds, Candidate, Outranks, outranking}
+use Rattle.running.specs.Running.{Holds, Candidate, Outranks}
+use Rattle.running.specs.Walking.{outranking}
 use Rattle.running.proofs.Forces.{none_some}
 
 pub held_has : (m : List Record) (r : Record) → Holds m r → Has m (key_of r)

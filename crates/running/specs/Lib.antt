@@ -1,3 +1,4 @@
 pub mod Running
+pub mod Walking
 pub mod Laws
 pub mod Worked

@@ -1,14 +1,11 @@
 -- Which schedule of a train is in force on a day.
-use Rattle.std.specs.Prelude.{◌≡◌, ℕ, ◌<◌, ◌≤◌, Bool, true, false, ◌&&◌, ◌||◌, ◌⊎◌, List, get_or, Some, None, Option, ◌==◌, nat_le, nat_lt, slice_index_or}
-use Rattle.std.specs.Option.{option_map}
+use Rattle.std.specs.Prelude.{◌≡◌, ℕ, ◌<◌, ◌≤◌, Bool, true, false, ◌&&◌, ◌⊎◌, List, get_or, Some, Option, MatchOption, nat_le, slice_index_or}
 use Rattle.calendar.specs.Calendar.{weekday}
-use Rattle.forms.specs.declared.letters.Stp.TheVariants.{Cancellation}
-use Rattle.schedule.specs.declared.key.Key.{Key}
 use Rattle.schedule.specs.declared.record.Record.{Record}
 use Rattle.schedule.specs.declared.schedule.Schedule.{Schedule}
 use Rattle.schedule.specs.Keys.{rank_of}
 use Rattle.schedule.specs.Records.{key_of}
-use Rattle.timetable.specs.Timetables.{schedule_of, not_before}
+use Rattle.timetable.specs.Timetables.{schedule_of}
 
 -- a schedule of the map
 abbrev pub Holds : List Record → Record → Type 0
@@ -35,23 +32,7 @@ pub record InForce (m : List Record) (uid day : ℕ) (r : Record) : Type 0 where
 abbrev pub covering : Record → ℕ → Bool
 covering r day = nat_le r.key.from day && (nat_le day r.to && slice_index_or r.days (weekday day) false)
 
--- whether a schedule outranks another
-abbrev pub outranking : Record → Record → Bool
-outranking r s = nat_lt (rank_of r.key.stp) (rank_of s.key.stp) || (rank_of r.key.stp == rank_of s.key.stp && nat_le s.key.from r.key.from)
-
--- whether a schedule covers the day and outranks the best so far, if there is one
-abbrev pub takes : Record → ℕ → Option Record → Bool
-takes here day None = covering here day
-takes here day (Some best) = covering here day && outranking here best
-
--- the record of a schedule, if there is one
-abbrev pub held : Option Schedule → Option Record
-held o = option_map (λ (s : Schedule). s.plain) o
-
--- the least key that a train can have
-abbrev pub first_of : ℕ → Key
-first_of uid = record { uid = uid; from = 0; stp = Cancellation }
-
--- a key is the first one of its train in a map
-abbrev pub IsFirst : List Record → Key → Type 0
-IsFirst m key = not_before m (first_of key.uid) ≡ Some key
+-- the answer is the schedule in force, or none where there is no candidate
+abbrev pub IsForceOf : List Record → ℕ → ℕ → Option Schedule → Type 0
+IsForceOf m uid day answer =
+    MatchOption answer ((s : Record) → Candidate m uid day s → ⊥) (λ s. InForce m uid day s.plain)

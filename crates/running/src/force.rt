@@ -1,8 +1,9 @@
 // Which schedule of a train is in force.
-ghost use Rattle.std.specs.Prelude.{◌≡◌, ◌+◌, None, Some, MatchOption, if◌then◌else◌};
+ghost use Rattle.std.specs.Prelude.{◌≡◌, ◌+◌, None, Some, if◌then◌else◌};
 ghost use Rattle.schedule.specs.declared.record.Record.{Record};
 ghost use Rattle.timetable.specs.Timetables.{schedule_of, not_before};
-ghost use Rattle.running.specs.Running.{Candidate, InForce, covering, outranking, takes, held, first_of, IsFirst};
+ghost use Rattle.running.specs.Running.{covering, IsForceOf};
+ghost use Rattle.running.specs.Walking.{outranking, takes, record_in, first_of, IsFirst};
 
 use forms::letters::Stp;
 use schedule::key::Key;
@@ -30,7 +31,7 @@ fn outranks(here: &Record, best: &Record) -> bool
 
 // Whether a schedule covers a day and outranks the best so far, if there is one.
 fn takes_place(here: &Record, day: u16, best: &Option<Schedule>) -> bool
-    ensures { result ≡ takes here.now day (held best.now) }
+    ensures { result ≡ takes here.now day (record_in best.now) }
 {
     covers(here, day)
         && match best {
@@ -39,7 +40,7 @@ fn takes_place(here: &Record, day: u16, best: &Option<Schedule>) -> bool
         }
 }
 
-// A walk over the schedules of a train: the best so far, if there is one, and a place to look at another in.
+/// A walk over the schedules of a train: the best so far, if there is one, and a place to look at another in.
 #[derive(Clone, Copy, Debug)]
 pub struct Walk {
     pub best: Option<Schedule>,
@@ -47,6 +48,7 @@ pub struct Walk {
 }
 
 impl Walk {
+    /// A walk with no best schedule.
     pub fn new() -> Walk
         ensures { result.best ≡ None }
     {
@@ -58,7 +60,11 @@ impl Walk {
 
     // Looks at the schedule of a key, unless it begins after the day: the best is then that one, or as before.
     fn consider<T: Timetable>(&mut self, timetable: &mut T, key: Key, day: u16)
-        ensures best { (h : Record) → schedule_of (T.meaning timetable.old).map key ≡ Some h → held self.new.best ≡ (if takes h day (held self.old.best) then Some h else held self.old.best) }
+        ensures best {
+            (h : Record) → schedule_of (T.meaning timetable.old).map key ≡ Some h
+            → record_in self.new.best
+            ≡ (if takes h day (record_in self.old.best) then Some h else record_in self.old.best)
+        }
         ensures same { timetable.new ≡ timetable.old }
     {
         if day < key.from {
@@ -69,11 +75,16 @@ impl Walk {
         }
     }
 
-    // Walks over a train from a key on, and answers the first key of the next train. From the train's first key on, the best is
-    // then the schedule in force on a day, if there is one.
+    /// Walks over a train from a key on, and answers the first key of the next train. From the train's first key on, the best is
+    /// then the schedule in force on a day, if there is one.
     pub fn train<T: Timetable>(&mut self, timetable: &mut T, first: Key, day: u16) -> Option<Key>
-        ensures best { IsFirst (T.meaning timetable.old).map first → MatchOption self.new.best ((s : Record) → Candidate (T.meaning timetable.old).map first.uid day s → ⊥) (λ s. InForce (T.meaning timetable.old).map first.uid day s.plain) }
-        ensures next { result ≡ not_before (T.meaning timetable.old).map (first_of (first.uid + 1)) }
+        ensures best {
+            IsFirst (T.meaning timetable.old).map first
+            → IsForceOf (T.meaning timetable.old).map first.uid day self.new.best
+        }
+        ensures next {
+            result ≡ not_before (T.meaning timetable.old).map (first_of (first.uid + 1))
+        }
         ensures same { timetable.new ≡ timetable.old }
     {
         self.best = None;
@@ -88,7 +99,7 @@ impl Walk {
     }
 }
 
-// The first key that a train can have.
+/// The first key that a train can have.
 pub fn first_of(uid: u32) -> Key
     ensures { result ≡ first_of uid }
 {
@@ -99,9 +110,9 @@ pub fn first_of(uid: u32) -> Key
     }
 }
 
-// The schedule of a train that is in force on a day, if there is one.
+/// The schedule of a train that is in force on a day, if there is one.
 pub fn in_force<T: Timetable>(timetable: &mut T, uid: u32, day: u16) -> Option<Schedule>
-    ensures value { MatchOption result ((s : Record) → Candidate (T.meaning timetable.old).map uid day s → ⊥) (λ s. InForce (T.meaning timetable.old).map uid day s.plain) }
+    ensures value { IsForceOf (T.meaning timetable.old).map uid day result }
     ensures same { timetable.new ≡ timetable.old }
 {
     match timetable.not_before(first_of(uid)) {

@@ -1,9 +1,8 @@
 // Worked cases, in one table.
 ghost use Rattle.running.specs.Worked.{Worked};
 
-// What some dates, UIDs and times come to, and which schedules of a train are in force in a worked week.
-pub fn worked_cases() -> u8
+/// What some dates, UIDs and times come to, and which schedules of a train are in force in a worked week.
+pub fn worked_cases()
     ensures { Worked }
 {
-    0
 }

@@ -4,7 +4,10 @@ use Rattle.std.specs.List.{list_all}
 use Rattle.std.proofs.lemmas.Bool.{and_parts, false≢true}
 use Rattle.std.proofs.lemmas.List.Sums.{fold_push}
 use Rattle.schedule.specs.declared.record.Record.{Record}
-use Rattle.overlay.specs.Overlays.{done_all}
+use Rattle.schedule.specs.declared.transaction.Change.{Change}
+use Rattle.timetable.specs.Timetables.{Meaning}
+use Rattle.overlay.specs.Overlays.{done_to, done_all, with_done}
+use Rattle.overlay.specs.Permitted.{MayBeDone, EachMayBeDone}
 use Rattle.overlay.proofs.Trains.{trains_decide}
 use Rattle.board.specs.declared.display.StationDay.{StationDay}
 use Rattle.board.specs.declared.line.Line.{Line}
@@ -13,7 +16,7 @@ use Rattle.board.proofs.Boards.{board_one}
 use Rattle.board.proofs.Trains.{cancelled}
 use Rattle.controller.specs.Calls.{Call, Open, Row, Confirm, Abandon, Turn, Tell, Tally}
 use Rattle.controller.specs.Ledger.{Ledger, Entry, without_rows, stepped, written, confirmed_map}
-use Rattle.runs.specs.Laws.{AbandonLeavesNoTrace, ShownIgnoresExtract, TwoOrdersOneMap, SameTrainsSameLines, CancelledNeverShown, NothingWithoutConfirm, reads_only, with_rows, confirms_nothing, SameConfirmed}
+use Rattle.runs.specs.Laws.{AbandonLeavesNoTrace, ShownIgnoresExtract, TwoOrdersOneMap, SameTrainsSameLines, CancelledNeverShown, NothingWithoutConfirm, reads_only, with_rows, confirms_nothing, SameConfirmed, ConfirmedCouldBeDone}
 
 -- an entry that only reads changes nothing but the rows
 step_reads : (ℓ : Ledger) (call : Call) (accepted : Bool) → reads_only (call, accepted) ≡ true → without_rows (stepped ℓ call accepted) ≡ without_rows ℓ
@@ -58,7 +61,7 @@ never_shown ℓ lines s uid r a shown f c l o e =
     cancelled (confirmed_map ℓ) s.station s.day uid r f c l e (b.only l o)
 
 -- a ledger that differs in nothing but the rows and what is shown
-kept : (ℓ : Ledger) (rows : List (List ℕ)) (shown : Option StationDay) → SameConfirmed ℓ (record { start = ℓ.start; rows = rows; confirmed = ℓ.confirmed; reference = ℓ.reference; shown = shown })
+kept : (ℓ : Ledger) (rows : List (List ℕ)) (shown : Option StationDay) → SameConfirmed ℓ (record ℓ { rows = rows; shown = shown })
 kept ℓ rows shown = record { confirmed = refl; map = refl; tally = refl; reference = refl }
 
 -- an entry that is no accepted confirm changes nothing but the rows and what is shown
@@ -84,3 +87,13 @@ nothing_confirmed ℓ (e ∷ es) h =
       tally = rest.tally ∙ one.tally;
       reference = rest.reference ∙ one.reference;
     }
+
+-- a transaction that was confirmed could be done when its turn came
+at_its_turn : (t : Meaning) (before after : List Change) (c : Change) → EachMayBeDone t (before ++ c ∷ after) → MayBeDone (with_done t before) c
+at_its_turn t [] after c h = h.0
+at_its_turn t (b ∷ bs) after c h = at_its_turn (record t { map = done_to t.map b }) bs after c h.1
+
+pub could_be_done : ConfirmedCouldBeDone
+could_be_done s ℓ before after c k e =
+    let t = record s.standing.store { map = ℓ.start } in
+    at_its_turn t before after c (subst (λ (cs : List Change). EachMayBeDone t cs) e k.confirmed)

@@ -6,6 +6,8 @@ use Rattle.std.proofs.lemmas.Option.{get_or_from_slice_get, slice_get_within, sl
 use Rattle.std.proofs.lemmas.Bool.{cases_lt}
 use Rattle.schedule.specs.declared.record.Record.{Record}
 use Rattle.timetable.specs.Timetables.{IsMap}
+use Rattle.overlay.specs.Permitted.{EachMayBeDone}
+use Rattle.overlay.proofs.Permitted.{each_lawful}
 use Rattle.controller.specs.declared.answer.Answer.{Answer}
 use Rattle.controller.specs.Calls.{Call, Open, Row, Confirm, Abandon, Turn, Tell, Tally}
 use Rattle.controller.specs.Ledger.{Ledger, new_ledger, stepped, Entry, written, is_accepted}
@@ -70,11 +72,11 @@ module _ (capacity slots : ℕ) (qs : List Asked) (rs : List Answer) (i : ℕ) (
           (subst (λ (b : Answer). ByLedger capacity slots (ledger_at qs rs i) (asked q) b) (answer_same rs i a y (ap (slice_get (set rs i a)) (sym z) ∙ f) within) new)))
 
   -- a call that obeys goes by the ledger
-  pub turn : (s t : State) → s.standing.capacity ≡ capacity → s.slots ≡ slots → Obeys s t (asked q) a → FirstCalls capacity slots qs rs i → KeepsTo s (ledger_at qs rs i)
+  pub turn : (s t : State) → s.standing.store.capacity ≡ capacity → s.slots ≡ slots → Obeys s t (asked q) a → FirstCalls capacity slots qs rs i → KeepsTo s (ledger_at qs rs i)
       → FirstCalls capacity slots qs (set rs i a) (i + 1) × KeepsTo t (ledger_at qs (set rs i a) (i + 1))
   turn s t c n obeys each keeps =
       let o = obeys.ledger (ledger_at qs rs i) keeps in (
-        each_more (subst (λ (x : ℕ). ByLedger x slots (ledger_at qs rs i) (asked q) a) c (subst (λ (y : ℕ). ByLedger s.standing.capacity y (ledger_at qs rs i) (asked q) a) n
+        each_more (subst (λ (x : ℕ). ByLedger x slots (ledger_at qs rs i) (asked q) a) c (subst (λ (y : ℕ). ByLedger s.standing.store.capacity y (ledger_at qs rs i) (asked q) a) n
             (record { told = o.told; before = s.lines; shown_before = keeps.lines; after = t.lines; shown_after = o.keeps.lines; unnamed = o.unnamed }))) each,
         subst (λ (ℓ : Ledger). KeepsTo t ℓ) (sym (ledger_more qs rs i q a at within)) o.keeps,
       )
@@ -97,6 +99,13 @@ start_kept ℓ (e ∷ es) = start_kept (stepped ℓ e.0 e.1) es ∙ step_start �
 no_map : IsMap []
 no_map = record { rising = refl; schedules = refl }
 
+-- each transaction that was confirmed could be done, over an empty store of a capacity
+pub all_confirmed : (s : State) (es : List Entry) (capacity : ℕ) → s.standing.store.capacity ≡ capacity → KeepsTo s (written (new_ledger []) es) → EachMayBeDone (record { map = []; capacity = capacity }) (written (new_ledger []) es).confirmed
+all_confirmed s es capacity e k =
+    let ℓ = written (new_ledger []) es in
+    subst (λ (n : ℕ). EachMayBeDone (record { map = []; capacity = n }) ℓ.confirmed) e
+    (subst (λ (m : List Record). EachMayBeDone (record { map = m; capacity = s.standing.store.capacity }) ℓ.confirmed) (start_kept (new_ledger []) es) k.confirmed)
+
 -- two runs with the same confirmed transactions for each train, and the same station and day
 pub same_boards : (s t : State) (es fs : List Entry) → KeepsTo s (written (new_ledger []) es) → KeepsTo t (written (new_ledger []) fs) → SameLines (written (new_ledger []) es) (written (new_ledger []) fs) s.lines t.lines
 same_boards s t es fs k l h shown =
@@ -104,7 +113,7 @@ same_boards s t es fs k l h shown =
     let m = written (new_ledger []) fs in
     let p : ℓ.start ≡ [] = start_kept (new_ledger []) es in
     let q : m.start ≡ [] = start_kept (new_ledger []) fs in
-    same_lines ℓ m (p ∙ sym q) (subst (λ (x : List Record). IsMap x) (sym p) no_map) k.confirmed l.confirmed h shown s.lines t.lines k.lines l.lines
+    same_lines ℓ m (p ∙ sym q) (subst (λ (x : List Record). IsMap x) (sym p) no_map) (each_lawful _ ℓ.confirmed k.confirmed) (each_lawful _ m.confirmed l.confirmed) h shown s.lines t.lines k.lines l.lines
 
 -- where both were run
 pub both_ok : {X Y Z W : Type 0} (r : Result X Y) (t : Result Z W) (P : X → Type 0) (Q : Y → Type 0) (R : Z → Type 0) (V : W → Type 0) (G : X → Z → Type 0)

@@ -1,36 +1,39 @@
 -- What holds of every ledger, whatever the calls that it was written from.
-use Rattle.std.specs.Prelude.{◌≡◌, ℕ, ◌+◌, min, Bool, true, false, not, ◌||◌, List, [], ◌∷◌, ◌++◌, length, Some}
+use Rattle.std.specs.Prelude.{◌≡◌, ℕ, ◌+◌, min, Bool, true, false, not, ◌&&◌, ◌||◌, List, [], ◌∷◌, ◌++◌, length, Some}
 use Rattle.std.specs.List.{list_all}
 use Rattle.schedule.specs.declared.record.Record.{Record}
 use Rattle.schedule.specs.Records.{is_cancellation}
+use Rattle.schedule.specs.declared.transaction.Change.{Change}
 use Rattle.schedule.specs.Transactions.{every_lawful}
 use Rattle.timetable.specs.Timetables.{IsMap}
+use Rattle.overlay.specs.Overlays.{done_all}
+use Rattle.overlay.specs.Permitted.{MayBeDone}
 use Rattle.overlay.specs.Laws.{of_train}
 use Rattle.extract.specs.Progress.{transactions_of}
 use Rattle.running.specs.Running.{InForce}
 use Rattle.board.specs.declared.display.StationDay.{StationDay}
 use Rattle.board.specs.declared.line.Line.{Line}
 use Rattle.board.specs.Lines.{On}
-use Rattle.controller.specs.Calls.{Call, Open, Row, Confirm, Abandon, Turn, Tell, Tally}
+use Rattle.controller.specs.Calls.{Call, Confirm, Abandon, Turn}
 use Rattle.controller.specs.Ledger.{Ledger, Entry, written, with_confirmed, confirmed_map, tally_of, LinesOf}
+use Rattle.controller.specs.Keeping.{State, KeepsTo, is_confirm}
 
 -- a refused call leaves no trace in any later ledger
 abbrev pub RefusedLeavesNoTrace : Type 0
-RefusedLeavesNoTrace = (ℓ : Ledger) (before after : List Entry) (call : Call) → written ℓ (before ++ (call, false) ∷ after) ≡ written ℓ (before ++ after)
+RefusedLeavesNoTrace =
+    (ℓ : Ledger) (before after : List Entry) (call : Call)
+    → written ℓ (before ++ (call, false) ∷ after) ≡ written ℓ (before ++ after)
 
--- calls that read rows or ask: open, row, tell and tally
-abbrev pub is_reading : Call → Bool
-is_reading (Open row) = true
-is_reading (Row row) = true
-is_reading Confirm = false
-is_reading Abandon = false
-is_reading (Turn station day) = false
-is_reading (Tell place) = true
-is_reading Tally = true
+-- calls that, accepted, change nothing but the rows of the open extract: open, row, tell and tally
+abbrev pub changes_rows_alone : Call → Bool
+changes_rows_alone Confirm = false
+changes_rows_alone Abandon = false
+changes_rows_alone (Turn station day) = false
+changes_rows_alone _ = true
 
--- an entry that only reads: a call that was refused, or an accepted open, row, tell or tally
+-- an entry that changes nothing but the rows: a call that was refused, or an accepted open, row, tell or tally
 abbrev pub reads_only : Entry → Bool
-reads_only (call, accepted) = not accepted || is_reading call
+reads_only (call, accepted) = not accepted || changes_rows_alone call
 
 -- an extract that is opened, read and abandoned leaves no trace
 abbrev pub AbandonLeavesNoTrace : Type 0
@@ -38,7 +41,7 @@ AbandonLeavesNoTrace = (ℓ : Ledger) (entries : List Entry) → ℓ.rows ≡ []
 
 -- the same ledger with other rows
 abbrev pub with_rows : Ledger → List (List ℕ) → Ledger
-with_rows ℓ rows = record { start = ℓ.start; rows = rows; confirmed = ℓ.confirmed; reference = ℓ.reference; shown = ℓ.shown }
+with_rows ℓ rows = record ℓ { rows = rows }
 
 -- what is shown before a confirmation does not depend on the open extract
 abbrev pub ShownIgnoresExtract : Type 0
@@ -69,13 +72,7 @@ TallyCounts = (ℓ : Ledger) → tally_of (with_confirmed ℓ) ≡ min (tally_of
 
 -- an entry that is no accepted confirm
 abbrev pub confirms_nothing : Entry → Bool
-confirms_nothing (Open row, accepted) = true
-confirms_nothing (Row row, accepted) = true
-confirms_nothing (Confirm, accepted) = not accepted
-confirms_nothing (Abandon, accepted) = true
-confirms_nothing (Turn station day, accepted) = true
-confirms_nothing (Tell place, accepted) = true
-confirms_nothing (Tally, accepted) = true
+confirms_nothing (call, accepted) = not (accepted && is_confirm call)
 
 -- what only a confirmation changes is in one ledger as in another
 pub record SameConfirmed (ℓ k : Ledger) : Type 0 where
@@ -87,3 +84,10 @@ pub record SameConfirmed (ℓ k : Ledger) : Type 0 where
 -- the map, the tally and the reference change by confirmations alone
 abbrev pub NothingWithoutConfirm : Type 0
 NothingWithoutConfirm = (ℓ : Ledger) (entries : List Entry) → list_all confirms_nothing entries ≡ true → SameConfirmed ℓ (written ℓ entries)
+
+-- a transaction that was confirmed could be done when its turn came: its schedule is one, N found its key absent and room, R and D found
+-- it there
+abbrev pub ConfirmedCouldBeDone : Type 0
+ConfirmedCouldBeDone =
+    (s : State) (ℓ : Ledger) (before after : List Change) (c : Change) → KeepsTo s ℓ → ℓ.confirmed ≡ before ++ c ∷ after
+    → MayBeDone (record s.standing.store { map = done_all ℓ.start before }) c

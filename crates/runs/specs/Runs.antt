@@ -1,9 +1,10 @@
 -- Whole runs: any calls, one after another, from a new controller and board on.
 use Rattle.std.specs.Prelude.{◌≡◌, ℕ, ◌<◌, true, List, [], ◌∷◌, length, take, Some, Result, MatchResult, IfOk, slice_get}
-use Rattle.schedule.specs.declared.record.Record.{Record}
+use Rattle.timetable.specs.Timetables.{Meaning}
 use Rattle.extract.specs.Progress.{transactions_of}
 use Rattle.board.specs.declared.line.Line.{Line}
 use Rattle.board.specs.Strikes.{struck}
+use Rattle.overlay.specs.Permitted.{EachMayBeDone}
 use Rattle.overlay.specs.Laws.{of_train}
 use Rattle.controller.specs.declared.answer.Answer.{Answer}
 use Rattle.controller.specs.Calls.{Call, Open, Row, Confirm, Abandon, Turn, Tell, Tally}
@@ -25,9 +26,9 @@ asked (AsksTurn station day) = Turn station.now day
 asked (AsksTell place) = Tell place
 asked AsksTally = Tally
 
--- how an installation stands, over a store that means a map and a capacity
-abbrev pub stands : {S : Type 0} → (S → List Record) → (S → ℕ) → Installation S → State
-stands map capacity i = state_in map capacity i.controller i.board
+-- how an installation stands
+abbrev pub stands : {S : Type 0} → (S → Meaning) → Installation S → State
+stands meaning i = state_in meaning i.controller i.board
 
 -- calls as they are written down: each with whether its answer says that it was accepted
 abbrev pub entries : List Asked → List Answer → List Entry
@@ -43,15 +44,18 @@ ledger_at calls answers k = written (new_ledger []) (take k (entries calls answe
 abbrev pub ledger_of : List Asked → List Answer → Ledger
 ledger_of calls answers = written (new_ledger []) (entries calls answers)
 
--- one call of a run, by the ledger of the calls before it: its answer is the ledger's, there are the lines that the ledger gives before and after it,
--- and around an accepted confirmation, with the lines of the trains that the extract names struck out, these are the same list
+-- one call of a run, by the ledger of the calls before it: its answer is the ledger's, there are the lines that the ledger gives before
+-- and after it, and around an accepted confirmation, with the lines of the trains that the extract names struck out, these are the
+-- same list
 pub record ByLedger (capacity slots : ℕ) (ℓ : Ledger) (call : Call) (answer : Answer) : Type 0 where
   pub told : AnswerOf ℓ capacity slots call answer
   pub before : List Line
   pub shown_before : LinesOf ℓ before
   pub after : List Line
   pub shown_after : LinesOf (stepped ℓ call (is_accepted answer)) after
-  pub unnamed : is_confirm call ≡ true → is_accepted answer ≡ true → struck (names (transactions_of ℓ.rows)) before ≡ struck (names (transactions_of ℓ.rows)) after
+  pub unnamed :
+      is_confirm call ≡ true → is_accepted answer ≡ true
+      → struck (names (transactions_of ℓ.rows)) before ≡ struck (names (transactions_of ℓ.rows)) after
 
 -- each of the first n calls of a run goes by the ledger of the calls before it
 abbrev pub FirstCalls : ℕ → ℕ → List Asked → List Answer → ℕ → Type 0
@@ -65,29 +69,33 @@ pub record Runs (capacity slots : ℕ) (calls : List Asked) (answers : List Answ
   pub places : length answers ≡ length calls
   pub each : FirstCalls capacity slots calls answers (length calls)
   pub keeps : KeepsTo end (ledger_of calls answers)
+  -- each transaction that was confirmed could be done when its turn came: N found its key absent, R and D found it there
+  pub confirmed : EachMayBeDone (record { map = []; capacity = capacity }) (ledger_of calls answers).confirmed
   -- capacity and line slots are still those that the answers go by
-  pub capacity_stays : end.standing.capacity ≡ capacity
+  pub capacity_stays : end.standing.store.capacity ≡ capacity
   pub slots_stay : end.slots ≡ slots
 
 -- a plan can be run: its store is empty, and there is a place for the answer to each call
-pub record Suits {S : Type 0} (map : S → List Record) (p : Plan S) : Type 0 where
-  pub empty : map p.store ≡ []
+pub record Suits {S : Type 0} (meaning : S → Meaning) (p : Plan S) : Type 0 where
+  pub empty : (meaning p.store).map ≡ []
   pub places : length p.answers.now ≡ length p.calls.now
 
 -- a plan is run, or it cannot be and is handed back as it was
-abbrev pub RunOf : {S : Type 0} → (S → List Record) → (S → ℕ) → Plan S → Result (Ran S) (Plan S) → Type 0
-RunOf map capacity p r =
+abbrev pub RunOf : {S : Type 0} → (S → Meaning) → Plan S → Result (Ran S) (Plan S) → Type 0
+RunOf meaning p r =
     MatchResult r
-    (λ ran. Suits map p × Runs (capacity p.store) (length p.slots.now) p.calls.now ran.answers.now (stands map capacity ran.installation))
-    (λ back. (back ≡ p) × (Suits map p → ⊥))
+    (λ ran. Suits meaning p
+        × Runs (meaning p.store).capacity (length p.slots.now) p.calls.now ran.answers.now (stands meaning ran.installation))
+    (λ back. (back ≡ p) × (Suits meaning p → ⊥))
 
--- two runs with the same confirmed transactions for each train, and boards that were last turned to the same station and day or never: the lines are equal
+-- two runs with the same confirmed transactions for each train, and boards that were last turned to the same station and day or never:
+-- the lines are equal
 abbrev pub SameLines : Ledger → Ledger → List Line → List Line → Type 0
 SameLines ℓ k xs ys = ((uid : ℕ) → of_train uid ℓ.confirmed ≡ of_train uid k.confirmed) → ℓ.shown ≡ k.shown → xs ≡ ys
 
 -- THE WHOLE PROMISE, of two runs over stores of any two makes
-pub record BothRuns {S T : Type 0} (map_s : S → List Record) (capacity_s : S → ℕ) (map_t : T → List Record) (capacity_t : T → ℕ) (p : Plan S) (q : Plan T) (r : Result (Ran S) (Plan S)) (t : Result (Ran T) (Plan T)) : Type 0 where
-  pub left : RunOf map_s capacity_s p r
-  pub right : RunOf map_t capacity_t q t
+pub record BothRuns {S T : Type 0} (meaning_s : S → Meaning) (meaning_t : T → Meaning) (p : Plan S) (q : Plan T) (r : Result (Ran S) (Plan S)) (t : Result (Ran T) (Plan T)) : Type 0 where
+  pub left : RunOf meaning_s p r
+  pub right : RunOf meaning_t q t
   pub alike : IfOk r (λ a. IfOk t (λ b. SameLines (ledger_of p.calls.now a.answers.now) (ledger_of q.calls.now b.answers.now)
-      (stands map_s capacity_s a.installation).lines (stands map_t capacity_t b.installation).lines))
+      (stands meaning_s a.installation).lines (stands meaning_t b.installation).lines))

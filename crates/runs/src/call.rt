@@ -1,6 +1,6 @@
 // The seven calls, as values.
 
-// A call with what it is given, other than controller and board.
+/// A call with what it is given, other than controller and board.
 #[derive(Clone, Copy, Debug)]
 pub enum Call<'a> {
     Open(&'a [u8]),

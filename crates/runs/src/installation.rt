@@ -1,5 +1,7 @@
 // A controller with its board.
-ghost use Rattle.std.specs.Prelude.{◌≡◌, ◌≤◌, Bool, true, false, length};
+ghost use Rattle.std.specs.Prelude.{◌≡◌, length};
+ghost use Rattle.std.specs.Bool.{OnFalse};
+ghost use Rattle.timetable.specs.Timetables.{IsWithinCapacity};
 ghost use Rattle.controller.specs.Ledger.{new_ledger, is_accepted};
 ghost use Rattle.controller.specs.Keeping.{KeepsTo, Obeys};
 ghost use Rattle.runs.specs.Runs.{asked, stands};
@@ -12,6 +14,7 @@ use controller::asked::tell;
 use controller::controller::Controller;
 use timetable::Store;
 
+/// A controller, and the board that it is installed with.
 #[derive(Drop)]
 pub struct Installation<'a, S> {
     pub controller: Controller<S>,
@@ -19,10 +22,15 @@ pub struct Installation<'a, S> {
 }
 
 impl<'a, S: Store> Installation<'a, S> {
-    // A new controller over a store, and a new board over line slots.
+    /// A new controller over a store, and a new board over line slots.
     pub fn new(store: S, slots: &'a mut [Line]) -> Installation<'a, S>
-        ensures keeps { length (S.meaning store).map ≤ (S.meaning store).capacity → KeepsTo (stands S.meaning result) (new_ledger (S.meaning store).map) }
-        ensures capacity { (stands S.meaning result).standing.capacity ≡ (S.meaning store).capacity }
+        ensures keeps {
+            IsWithinCapacity (S.meaning store)
+            → KeepsTo (stands S.meaning result) (new_ledger (S.meaning store).map)
+        }
+        ensures capacity {
+            (stands S.meaning result).standing.store.capacity ≡ (S.meaning store).capacity
+        }
         ensures slots { (stands S.meaning result).slots ≡ length slots.old }
     {
         Installation {
@@ -31,10 +39,12 @@ impl<'a, S: Store> Installation<'a, S> {
         }
     }
 
-    // Does one call, whichever it is.
+    /// Does one call, whichever it is. A refused call leaves controller and board as they were.
     pub fn call(&mut self, call: &Call<'_>) -> Answer
-        ensures obeys { Obeys (stands S.meaning self.old) (stands S.meaning self.new) (asked call.now) result }
-        ensures unchanged { is_accepted result ≡ false → self.new ≡ self.old }
+        ensures obeys {
+            Obeys (stands S.meaning self.old) (stands S.meaning self.new) (asked call.now) result
+        }
+        ensures unchanged { OnFalse (is_accepted result) (self.new ≡ self.old) }
     {
         match call {
             Call::Open(row) => Answer::from(self.controller.open(row)),

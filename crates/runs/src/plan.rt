@@ -4,7 +4,7 @@ use crate::installation::Installation;
 use board::line::Line;
 use controller::answer::Answer;
 
-// A store, slots for the lines of a board, the calls, and a place for the answer to each.
+/// A store, slots for the lines of a board, the calls, and a place for the answer to each.
 #[derive(Drop)]
 pub struct Plan<'a, S> {
     pub store: S,
@@ -13,7 +13,7 @@ pub struct Plan<'a, S> {
     pub answers: &'a mut [Answer],
 }
 
-// The installation after all calls, and the answer to each.
+/// The installation after all calls, and the answer to each.
 #[derive(Drop)]
 pub struct Ran<'a, S> {
     pub installation: Installation<'a, S>,

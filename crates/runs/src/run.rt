@@ -5,8 +5,8 @@ use crate::installation::Installation;
 use crate::plan::{Plan, Ran};
 use timetable::{Store, Timetable};
 
-// Does the calls of a plan to a new controller and board. It is handed back where the store is not empty,
-// or there are not as many places for answers as calls.
+/// Does the calls of a plan to a new controller and board. It is refused, and handed back as it was, where the store is not empty,
+/// or there are not as many places for answers as calls.
 pub fn run<'a, S: Store>(mut plan: Plan<'a, S>) -> Result<Ran<'a, S>, Plan<'a, S>>
     ensures { RunOf S.meaning plan.entry result }
 {
@@ -29,7 +29,7 @@ pub fn run<'a, S: Store>(mut plan: Plan<'a, S>) -> Result<Ran<'a, S>, Plan<'a, S
     })
 }
 
-// Does two plans, over stores of any two makes.
+/// Does two plans, over stores of any two makes.
 pub fn run_both<'a, 'b, S: Store, T: Store>(
     left: Plan<'a, S>,
     right: Plan<'b, T>,
@@ -37,7 +37,9 @@ pub fn run_both<'a, 'b, S: Store, T: Store>(
     Result<Ran<'a, S>, Plan<'a, S>>,
     Result<Ran<'b, T>, Plan<'b, T>>,
 )
-    ensures { BothRuns S.meaning T.meaning left.entry right.entry result.0 result.1 }
+    ensures {
+        BothRuns S.meaning T.meaning left.entry right.entry result.0 result.1
+    }
 {
     (run(left), run(right))
 }

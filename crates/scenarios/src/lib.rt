@@ -11,7 +11,7 @@ use schedule::key::Key;
 use schedule::record::Record;
 use schedule::schedule::Schedule;
 
-// A schedule's record with no calls.
+/// A schedule's record with no calls.
 pub fn record(uid: u32, from: u16, stp: Stp, to: u16) -> Record
     ensures { result ≡ sample (record { uid = uid; from = from; stp = stp }) to }
 {
@@ -24,14 +24,14 @@ pub fn record(uid: u32, from: u16, stp: Stp, to: u16) -> Record
     }
 }
 
-// A permanent schedule of a train that runs on one day.
+/// A permanent schedule of a train that runs on one day.
 pub fn one_day(uid: u32, day: u16) -> Option<Schedule>
     ensures { let r = sample (record { uid = uid; from = day; stp = Permanent }) day in MatchOption result (is_schedule r ≡ false) (λ s. s.plain ≡ r) }
 {
     Schedule::try_from(record(uid, day, Stp::Permanent, day)).ok()
 }
 
-// A permanent schedule of a train that runs every day of a time, if it is one.
+/// A permanent schedule of a train that runs every day of a time, if it is one.
 pub fn permanent(uid: u32, from: u16, to: u16) -> Option<Schedule>
     ensures { let r = sample (record { uid = uid; from = from; stp = Permanent }) to in MatchOption result (in_range r ≡ false) (λ s. s.plain ≡ r) }
 {

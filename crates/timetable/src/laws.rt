@@ -28,7 +28,8 @@ pub fn not_before_is_least()
 // Puts a record's schedule, if it is one, into a store of any make.
 fn put_one<S: Store>(store: &mut S, plain: &Record) -> Result<(), Full>
     ensures map {
-        OnOk result ((S.meaning store.new).map ≡ set_if_schedule (S.meaning store.old).map plain.now)
+        OnOk result
+            ((S.meaning store.new).map ≡ set_if_schedule (S.meaning store.old).map plain.now)
     }
     ensures capacity { (S.meaning store.new).capacity ≡ (S.meaning store.old).capacity }
 {
@@ -40,7 +41,9 @@ fn put_one<S: Store>(store: &mut S, plain: &Record) -> Result<(), Full>
 
 /// Puts those of the records that are schedules into a store of any make, up to the first that finds no room.
 pub fn put_all<S: Store>(store: &mut S, records: &[Record]) -> Result<(), Full>
-    ensures map { OnOk result ((S.meaning store.new).map ≡ set_all (S.meaning store.old).map records.now) }
+    ensures map {
+        OnOk result ((S.meaning store.new).map ≡ set_all (S.meaning store.old).map records.now)
+    }
     ensures capacity { (S.meaning store.new).capacity ≡ (S.meaning store.old).capacity }
 {
     for plain in records {

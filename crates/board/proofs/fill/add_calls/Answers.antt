@@ -10,10 +10,8 @@ loop-place-init c = (added_none _ _ _, refl, grown_none _)
 
 pub add_call-requires : goal.add_call-requires
 add_call-requires c = record {
-  place = (let k = c.requires.count in omega arith);
-  station = c.requires.station;
   room = λ at. subst (λ (n : ℕ). length (items c.loop-place.lines) < n) (sym c.loop-place.invariant.1)
-      (room_for c.args.station.now c.args.plain.now c.loop-place.place (room c.args.lines.now) c.args.plain.now.count (items c.args.lines.now) (items c.loop-place.lines) c.loop-place.invariant.0 c.requires.station (omega arith) c.requires.room at);
+      (room_for c.args.station.now c.args.plain.now c.loop-place.place (room c.args.lines.now) c.args.plain.now.count (items c.args.lines.now) (items c.loop-place.lines) c.loop-place.invariant.0 (omega arith) c.requires.room at);
 }
 
 pub loop-place-preserved : goal.loop-place-preserved

@@ -3,7 +3,7 @@ use Rattle.ordered.specs.Tables.{items}
 use Rattle.schedule.specs.declared.record.Record.{Record}
 use Rattle.schedule.specs.Records.{is_schedule}
 use Rattle.running.specs.Running.{InForce}
-use Rattle.board.proofs.Trains.{no_station, runs_if, calls, trained_calls}
+use Rattle.board.proofs.Trains.{runs_if, calls, trained_calls}
 use Rattle.board.proofs.fill.add_train.Goals as goal
 use Rattle.board.proofs.fill.add_train.Goals.{In-Some}
 
@@ -19,7 +19,6 @@ add_calls-requires g c =
     let force = in_force g (goal.at.add_calls-requires g c).In-Some in
     record {
       count = few.count;
-      station = no_station c.args.shown.now.station (search rules);
       room = omega arith;
       fresh = λ l o e. c.requires.fresh l o (e ∙ (ap (λ (r : Record). r.key.uid) c.record-plain.ensures ∙ force.candidate.train));
     }

@@ -3,7 +3,7 @@ use Rattle.ordered.specs.Tables.{items}
 use Rattle.schedule.specs.declared.record.Record.{Record}
 use Rattle.timetable.specs.Timetables.{not_before}
 use Rattle.timetable.proofs.Nexts.{left}
-use Rattle.running.specs.Running.{first_of, IsFirst}
+use Rattle.running.specs.Walking.{first_of, IsFirst}
 use Rattle.board.specs.Filling.{StartsTrain, UpTo, Trained}
 use Rattle.board.proofs.Boards.{start, starts, fresh, more, whole, left_from, left_from_all, falls, some_left}
 use Rattle.board.proofs.Rests.{rest_more}

@@ -1,7 +1,7 @@
 use Rattle.std.proofs.Common.{refl, sym, ap, ◌∙◌}
 use Rattle.timetable.specs.Timetables.{not_before}
 use Rattle.timetable.proofs.Nexts.{next, all_before}
-use Rattle.running.specs.Running.{first_of}
+use Rattle.running.specs.Walking.{first_of}
 use Rattle.running.proofs.Turns.{past_train}
 use Rattle.running.proofs.Walks.{begin, held_has}
 use Rattle.running.proofs.force.in_force.Goals as goal

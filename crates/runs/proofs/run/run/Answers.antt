@@ -3,8 +3,8 @@ use Rattle.std.proofs.lemmas.List.{nil_from_length}
 use Rattle.std.proofs.lemmas.Option.{slice_get-get_or}
 use Rattle.controller.specs.Keeping.{KeepsTo}
 use Rattle.controller.specs.Ledger.{Ledger}
-use Rattle.runs.specs.Runs.{stands}
-use Rattle.runs.proofs.Runs.{turn, ledger_all}
+use Rattle.runs.specs.Runs.{stands, entries}
+use Rattle.runs.proofs.Runs.{turn, ledger_all, all_confirmed}
 use Rattle.runs.proofs.run.run.Goals as goal
 
 pub loop-place-preserved : goal.loop-place-preserved
@@ -28,6 +28,8 @@ returns g c =
         places = v.0;
         each = λ k call answer l e f. v.1 k call answer (let t = c.loop-place-test.false in omega arith) e f;
         keeps = subst (λ (ℓ : Ledger). KeepsTo (stands g.S.Timetable.meaning c.loop-place.installation) ℓ) (ledger_all calls c.loop-place.answers c.loop-place.place v.0 c.loop-place-test.false) v.2;
+        confirmed = all_confirmed (stands g.S.Timetable.meaning c.loop-place.installation) (entries calls c.loop-place.answers) _ v.3
+            (subst (λ (ℓ : Ledger). KeepsTo (stands g.S.Timetable.meaning c.loop-place.installation) ℓ) (ledger_all calls c.loop-place.answers c.loop-place.place v.0 c.loop-place-test.false) v.2);
         capacity_stays = v.3;
         slots_stay = v.4;
       },

@@ -8,5 +8,5 @@ invariant-loop-place g l =
     (length l.answers ≡ length l.calls)
     × FirstCalls (g.S.Timetable.meaning l.fn.plan.store).capacity (length l.fn.plan.slots.now) l.calls l.answers l.place
     × KeepsTo (stands g.S.Timetable.meaning l.installation) (ledger_at l.calls l.answers l.place)
-    × ((stands g.S.Timetable.meaning l.installation).standing.capacity ≡ (g.S.Timetable.meaning l.fn.plan.store).capacity)
+    × ((stands g.S.Timetable.meaning l.installation).standing.store.capacity ≡ (g.S.Timetable.meaning l.fn.plan.store).capacity)
     × ((stands g.S.Timetable.meaning l.installation).slots ≡ length l.fn.plan.slots.now)

@@ -5,6 +5,7 @@ use Rattle.cif.specs.Reading.{letters_in}
 use Rattle.extract.specs.Judging.{is_misplaced}
 use Rattle.controller.specs.Shown.{standing_in}
 use Rattle.controller.proofs.Heard.{beside_ok, beside_err, heard_ok, heard_err, told_err}
+use Rattle.controller.proofs.Called.{at_err}
 use Rattle.controller.proofs.Whole.{same_controller}
 use Rattle.controller.proofs.controller.Controller.hear.Goals as goal
 
@@ -21,8 +22,9 @@ returns-in_err-beside-clause-told g c =
 pub returns-in_err-beside-clause-unchanged : goal.returns-in_err-beside-clause-unchanged
 returns-in_err-beside-clause-unchanged g c =
     let refused = beside_err c.take.result c.letters-letters.result c.in_err-beside.field-0.0 (sym c.beside-2.ensures ∙ c.in_err-beside.was) in
-    let kept = c.take.ensures.unchanged (ap is_ok refused.0) in
-    λ _. same_controller c.args.self.now _ _ _ kept.1 kept.0
+    let kept = at_err _ c.take.result c.take.ensures.unchanged (ap is_ok refused.0) in
+    let p = err_from_is_err_and c.from_residual-in_err-beside.result c.from_residual-in_err-beside.ensures.1 in
+    rw p.1 (same_controller c.args.self.now _ _ _ kept.1 kept.0)
 
 pub returns-clause-told : goal.returns-clause-told
 returns-clause-told g c =

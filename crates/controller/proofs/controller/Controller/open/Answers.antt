@@ -1,6 +1,7 @@
-use Rattle.std.proofs.Common.{◌≡◌, ◌+◌, [], ◌∷◌, ◌++◌, sym, refl, ap, ◌∙◌, subst}
+use Rattle.std.proofs.Common.{◌≡◌, ◌+◌, [], ◌∷◌, ◌++◌, is_ok, sym, refl, ap, ◌∙◌, subst}
 use Rattle.std.proofs.lemmas.Bool.{true≢false}
 use Rattle.cif.specs.Refusals.{raised}
+use Rattle.timetable.specs.Timetables.{Meaning}
 use Rattle.extract.specs.Judging.{is_no_opening}
 use Rattle.controller.specs.Faults.{in_extract}
 use Rattle.controller.specs.Agreeing.{Agrees}
@@ -8,9 +9,9 @@ use Rattle.controller.specs.Shown.{progress_in, standing_in}
 use Rattle.controller.specs.Calls.{Open}
 use Rattle.controller.specs.Keeping.{state_in}
 use Rattle.controller.proofs.Heard.{heard_after}
-use Rattle.controller.proofs.Kept.{obeys_done, keeps_row}
+use Rattle.controller.proofs.Kept.{obeys_done, keeps_extract}
 use Rattle.controller.proofs.Agreed.{opening_places, agrees_more}
-use Rattle.controller.proofs.Called.{told_ok, opening_refused, was_ok, same_ok}
+use Rattle.controller.proofs.Called.{told_ok, opening_refused, was_ok, same_ok, on_ok, on_err, at_err, transaction_lawful}
 use Rattle.controller.proofs.controller.Controller.open.Goals as goal
 
 pub returns-clause-told : goal.returns-clause-told
@@ -31,18 +32,16 @@ returns-clause-taken g c =
     let r = c.hear_opening.result in
     let out = c.numbered.result in
     let n : out ≡ raised (in_extract (c.args.self.now.extract.taken + 1)) r = c.numbered.ensures ∙ ap (λ k. raised (in_extract (k + 1)) r) c.rows_taken-number.ensures in
-    λ ok. heard_after is_no_opening s row p (told_ok p _ r c.hear_opening.ensures.told (was_ok s row p r out n ok))
+    on_ok _ out (λ ok. heard_after is_no_opening s row p (told_ok p _ r c.hear_opening.ensures.told (was_ok s row p r out n ok)))
 
-pub returns-clause-agrees : goal.returns-clause-agrees
-returns-clause-agrees g c =
+pub returns-clause-unchanged : goal.returns-clause-unchanged
+returns-clause-unchanged g c =
     let s = standing_in g.S.Timetable.meaning c.args.self.now in
-    let row = c.args.row.now in
     let p = progress_in c.hear_opening.new.self in
     let r = c.hear_opening.result in
     let out = c.numbered.result in
     let n : out ≡ raised (in_extract (c.args.self.now.extract.taken + 1)) r = c.numbered.ensures ∙ ap (λ k. raised (in_extract (k + 1)) r) c.rows_taken-number.ensures in
-    let store = ap (λ o. o.store) c.hear_opening.ensures.store in
-    λ rows a ok. subst (λ (v : g.row.S.Denot). Agrees (g.S.Timetable.meaning v).map (g.S.Timetable.meaning v).capacity (rows ++ row ∷ []) p) (sym store) (agrees_more is_no_opening opening_places s row p rows c.args.self.now.overlay.pending.lawful (told_ok p _ r c.hear_opening.ensures.told (was_ok s row p r out n ok)) a)
+    on_err _ out (λ no. at_err _ r c.hear_opening.ensures.unchanged (sym (same_ok s c.args.row.now p r out n) ∙ no))
 
 pub returns-clause-obeys : goal.returns-clause-obeys
 returns-clause-obeys g c b =
@@ -54,13 +53,15 @@ returns-clause-obeys g c b =
     let n : out ≡ raised (in_extract (c.args.self.now.extract.taken + 1)) r = c.numbered.ensures ∙ ap (λ k. raised (in_extract (k + 1)) r) c.rows_taken-number.ensures in
     let before = state_in g.S.Timetable.meaning c.args.self.now b in
     let after = state_in g.S.Timetable.meaning c.hear_opening.new.self b in
-    let store : c.hear_opening.new.self.overlay.store ≡ c.args.self.now.overlay.store = ap (λ o. o.store) c.hear_opening.ensures.store in
+    let rest = c.hear_opening.ensures.rest in
+    let store = ap g.S.Timetable.meaning rest.store in
     obeys_done before after (Open row) out (returns-clause-told g c) (λ ℓ h. h)
     (λ ok ℓ k. (
-      keeps_row before after ℓ k row
-          (record { map = ap (λ v. (g.S.Timetable.meaning v).map) store; reference = c.hear_opening.ensures.reference; tally = c.hear_opening.ensures.tally; shown = refl; lines = refl })
-          (returns-clause-agrees g c ℓ.rows k.extract ok) c.hear_opening.new.self.overlay.pending.lawful,
+      keeps_extract before after ℓ k (ℓ.rows ++ row ∷ [])
+          (record { store = store; reference = rest.reference; tally = rest.tally; shown = refl; lines = refl })
+          (subst (λ (t : Meaning). Agrees t (ℓ.rows ++ row ∷ []) p) (sym store)
+          (agrees_more is_no_opening opening_places s row p ℓ.rows (transaction_lawful c.hear_opening.new.self.extract.draft) c.hear_opening.new.self.overlay.pending.lawful (told_ok p _ r c.hear_opening.ensures.told (was_ok s row p r out n ok)) k.extract)),
       λ e. absurd (true≢false (sym e)),
     ))
-    (λ no. ap (λ v. state_in g.S.Timetable.meaning v b) (c.hear_opening.ensures.unchanged (sym (same_ok s row p r out n) ∙ no)))
-    (ap (λ v. (g.S.Timetable.meaning v).capacity) store) refl
+    (λ no. ap (λ v. state_in g.S.Timetable.meaning v b) (at_err _ r c.hear_opening.ensures.unchanged (sym (same_ok s row p r out n) ∙ no)))
+    (ap (λ (t : Meaning). t.capacity) store) refl

@@ -5,7 +5,7 @@ use Rattle.extract.specs.Judging.{Standing}
 use Rattle.extract.specs.Seen.{standing}
 use Rattle.controller.specs.Calls.{Turn, refusal_of}
 use Rattle.controller.specs.Keeping.{State, state, state_in}
-use Rattle.controller.proofs.Called.{no_row_ok}
+use Rattle.controller.proofs.Called.{no_row_ok, at_ok, at_err}
 use Rattle.controller.proofs.Kept.{obeys_done, keeps_shown}
 use Rattle.controller.proofs.controller.Controller.turn.Goals as goal
 
@@ -20,6 +20,6 @@ returns-clause-obeys g c =
     let told : fault_of out ≡ refusal_of (Turn c.args.station.now c.args.day) before.standing before.slots = search rules in
     let kept : after.standing ≡ before.standing = ap judged c.turn.ensures.same in
     obeys_done before after (Turn c.args.station.now c.args.day) out told (λ ℓ h. h)
-    (λ ok ℓ k. (keeps_shown before after ℓ k c.args.station.now c.args.day kept refl (c.turn.ensures.set (sym same ∙ ok)) (c.turn.ensures.board (sym same ∙ ok)), λ e. absurd (true≢false (sym e))))
-    (λ no. ap (λ s. state s self.tally c.turn.new.self) kept ∙ ap (state before.standing self.tally) (c.turn.ensures.unchanged (sym same ∙ no)))
-    (ap (λ v. (g.S.Timetable.meaning v).capacity) c.turn.ensures.same) c.turn.ensures.slots
+    (λ ok ℓ k. (keeps_shown before after ℓ k c.args.station.now c.args.day kept refl (at_ok _ c.turn.result c.turn.ensures.set (sym same ∙ ok)) (at_ok _ c.turn.result c.turn.ensures.board (sym same ∙ ok)), λ e. absurd (true≢false (sym e))))
+    (λ no. ap (λ s. state s self.tally c.turn.new.self) kept ∙ ap (state before.standing self.tally) (at_err _ c.turn.result c.turn.ensures.unchanged (sym same ∙ no)))
+    (ap (λ v. (g.S.Timetable.meaning v).capacity) c.turn.ensures.same) c.turn.ensures.slots.slots

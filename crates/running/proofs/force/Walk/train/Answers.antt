@@ -2,7 +2,7 @@ use Rattle.std.proofs.Common.{◌≡◌, ◌<◌, List, None, sym, refl, ap, ◌
 use Rattle.schedule.specs.declared.record.Record.{Record}
 use Rattle.timetable.specs.Timetables.{not_before}
 use Rattle.timetable.proofs.Nexts.{next, all_before, walk_small}
-use Rattle.running.specs.Running.{held, IsFirst}
+use Rattle.running.specs.Walking.{record_in, IsFirst}
 use Rattle.running.proofs.Trains.{own, turns, turns_fall, passes, further, begins, first_there, train_passed, all_passed}
 use Rattle.running.proofs.Turns.{walk_turn, ended, past_train}
 use Rattle.running.proofs.Walks.{Walked, held_has}
@@ -32,19 +32,19 @@ loop-next-smaller g c =
     (subst (λ (x : List Record). turns m c.in-Some.next < turns x c.loop-next.key) (sym (ap (λ v. (g.T.Timetable.meaning v).map) same)) falls)
 
 -- what was kept once the schedule of a key was looked at
-turned : (g : _) (c : After-not_before g) → IsFirst (g.T.Timetable.meaning c.args.timetable.now).map c.args.first → Walked (g.T.Timetable.meaning c.args.timetable.now).map c.args.first.uid c.args.day c.next_in_train.result (held c.consider.new.self.best)
+turned : (g : _) (c : After-not_before g) → IsFirst (g.T.Timetable.meaning c.args.timetable.now).map c.args.first → Walked (g.T.Timetable.meaning c.args.timetable.now).map c.args.first.uid c.args.day c.next_in_train.result (record_in c.consider.new.self.best)
 turned g c f =
     let m = (g.T.Timetable.meaning c.args.timetable.now).map in
     let so_far = c.loop-next.invariant.0 f in
     walk_turn m (g.T.Timetable.meaning c.loop-next.timetable).map (ap (λ v. (g.T.Timetable.meaning v).map) c.loop-next.invariant.2) c.loop-next.key c.loop-next.key (own m c.loop-next.key so_far.1)
-    c.args.first.uid c.args.day c.next_in_train.result (held c.loop-next.self.best) (held c.consider.new.self.best)
+    c.args.first.uid c.args.day c.next_in_train.result (record_in c.loop-next.self.best) (record_in c.consider.new.self.best)
     c.consider.ensures.best c.next_in_train.ensures.tight c.loop-next.invariant.1 so_far.0
 
 pub loop-next-preserved : goal.loop-next-preserved
 loop-next-preserved g c =
     let m = (g.T.Timetable.meaning c.args.timetable.now).map in
     let n = next m c.next_in_train.result c.in-Some.next (g.met.T.Timetable.is_map c.args.timetable.now) (sym (asked g (goal.at.loop-next-preserved g c).After-not_before) ∙ c.in-Some.is) in (
-      λ f. (further m c.args.first.uid c.args.day c.next_in_train.result c.in-Some.next (held c.consider.new.self.best) n (turned g (goal.at.loop-next-preserved g c).After-not_before f), n.there),
+      λ f. (further m c.args.first.uid c.args.day c.next_in_train.result c.in-Some.next (record_in c.consider.new.self.best) n (turned g (goal.at.loop-next-preserved g c).After-not_before f), n.there),
       c.if-next-first.true,
       c.not_before.ensures.same ∙ c.consider.ensures.same ∙ c.loop-next.invariant.2,
     )
