@@ -66,14 +66,12 @@ stp_of row = stp_in (byte_at 80 row)
 abbrev pub reads_all : Option Transaction → Bool
 reads_all (Some AsNew) = true
 reads_all (Some AsRevised) = true
-reads_all (Some AsDeleted) = false
-reads_all None = false
+reads_all _ = false
 
 -- whether it runs from a later day than it runs to
 abbrev pub ends_before : Option (ℕ × ℕ) → Option (ℕ × ℕ) → Bool
 ends_before (Some from) (Some to) = nat_lt to.0 from.0
-ends_before (Some from) None = false
-ends_before None to = false
+ends_before _ _ = false
 
 -- a line that counts only under a condition
 abbrev pub only_if : Bool → TableLine → TableLine

@@ -46,8 +46,8 @@ uppermost (l ∷ ls) = cond l.1 (Some l.0) (uppermost ls)
 
 -- whether there is no value
 abbrev pub missing : {X : Type 0} → Option X → Bool
-missing (Some x) = false
 missing None = true
+missing _ = false
 
 -- the line of a field: it lacks its form
 abbrev pub lacks : {X : Type 0} → ℕ → Option X → TableLine

@@ -1,5 +1,5 @@
 -- A row: 80 printable bytes, of which the first two are one of twelve identities.
-use Rattle.std.specs.Prelude.{◌≡◌, ℕ, ◌+◌, Bool, cond, not, ◌&&◌, List, [], ◌∷◌, length, Some, None, Ok, Err, codes, Option, Result, MatchResult, ◌==◌, nat_le, slice_index}
+use Rattle.std.specs.Prelude.{◌≡◌, ℕ, ◌+◌, Bool, if◌then◌else◌, not, ◌&&◌, List, [], ◌∷◌, length, Some, None, Ok, Err, codes, Option, Result, MatchResult, ◌==◌, nat_le, slice_index}
 use Rattle.forms.specs.Bytes.{byte_at}
 use Rattle.cif.specs.declared.refusal.Refusal.TheVariants.{RowLength, BadByte, UnknownIdentity}
 use Rattle.cif.specs.declared.refusal.ColumnFault.{ColumnFault}
@@ -28,7 +28,8 @@ letters_of Trailer = codes "ZZ"
 -- the identity whose letters they are
 abbrev pub named : List Identity → ℕ → ℕ → Option Identity
 named [] a b = None
-named (i ∷ is) a b = cond (a == slice_index (letters_of i) 0 && b == slice_index (letters_of i) 1) (Some i) (named is a b)
+named (i ∷ is) a b =
+    if a == slice_index (letters_of i) 0 && b == slice_index (letters_of i) 1 then Some i else named is a b
 
 -- the identity of two letters, if they are those of one
 abbrev pub identity_of : ℕ → ℕ → Option Identity
@@ -70,6 +71,9 @@ row_lines row =
 -- the identity of a row that is whole, or the uppermost of these refusals
 abbrev pub whole_in : List ℕ → Result Identity ColumnFault
 whole_in row =
-    cond (length row == 80)
-    (elim (first_bad row) [ Some column ↦ Err (fault_at BadByte column) | None ↦ elim (identity_in row) [ Some i ↦ Ok i | None ↦ Err (fault_at UnknownIdentity 1) ] ])
-    (Err (fault_at RowLength 0))
+    if length row == 80
+    then (elim (first_bad row) [
+      | Some column ↦ Err (fault_at BadByte column)
+      | None ↦ elim (identity_in row) [ Some i ↦ Ok i | None ↦ Err (fault_at UnknownIdentity 1) ]
+    ])
+    else Err (fault_at RowLength 0)

@@ -1,5 +1,5 @@
 -- Fields of one letter, and the letter of each case.
-use Rattle.std.specs.Prelude.{ℕ, cond, List, [], ◌∷◌, Some, None, Option, Result, ◌==◌}
+use Rattle.std.specs.Prelude.{ℕ, if◌then◌else◌, List, [], ◌∷◌, Some, None, Option, Result, ◌==◌}
 use Rattle.std.specs.Option.{ok_or}
 use Rattle.forms.specs.declared.letters.UnknownLetter.{UnknownLetter}
 use Rattle.forms.specs.declared.letters.Stp.{Stp}
@@ -30,7 +30,7 @@ coverage_letter Update = 85
 -- the case whose letter it is
 abbrev pub chosen : {X : Type 0} → (X → ℕ) → List X → ℕ → Option X
 chosen letter [] c = None
-chosen letter (x ∷ xs) c = cond (c == letter x) (Some x) (chosen letter xs c)
+chosen letter (x ∷ xs) c = if c == letter x then Some x else chosen letter xs c
 
 -- the STP letter's case
 abbrev pub stp_in : ℕ → Option Stp

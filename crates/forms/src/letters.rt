@@ -5,7 +5,7 @@ ghost use Rattle.forms.specs.Letters.{stp_letter, transaction_letter, coverage_l
 use std::error::Error;
 use std::fmt;
 
-// A letter that stands for nothing in its field.
+/// A letter that stands for nothing in its field.
 #[derive(Clone, Copy, Debug, PartialEq, Eq)]
 pub struct UnknownLetter(pub char);
 
@@ -17,12 +17,16 @@ impl fmt::Display for UnknownLetter {
 
 impl Error for UnknownLetter {}
 
-// What kind of schedule it is, by its STP letter.
+/// What kind of schedule it is, by its STP letter.
 #[derive(Clone, Copy, Debug, PartialEq, Eq, PartialOrd, Ord)]
 pub enum Stp {
+    /// C: the train does not run on the days that the schedule covers.
     Cancellation = b'C' as isize,
+    /// N: a train that runs for a short term only.
     ShortTerm = b'N' as isize,
+    /// O: what holds in place of the permanent schedule on the days that it covers.
     Overlay = b'O' as isize,
+    /// P: the permanent schedule.
     Permanent = b'P' as isize,
 }
 
@@ -43,6 +47,7 @@ impl TryFrom<char> for Stp {
 }
 
 impl Stp {
+    /// The letter, in upper case.
     pub fn letter(self) -> u8
         ensures value { result ≡ stp_letter self }
         ensures named { stp_in result ≡ Some self }
@@ -51,11 +56,14 @@ impl Stp {
     }
 }
 
-// What is done with a schedule.
+/// What a BS row does with a schedule, by its transaction letter.
 #[derive(Clone, Copy, Debug, PartialEq, Eq)]
 pub enum Transaction {
+    /// N: it is new.
     New = b'N' as isize,
+    /// R: it takes the place of the one of its key.
     Revise = b'R' as isize,
+    /// D: it goes.
     Delete = b'D' as isize,
 }
 
@@ -75,6 +83,7 @@ impl TryFrom<char> for Transaction {
 }
 
 impl Transaction {
+    /// The letter, in upper case.
     pub fn letter(self) -> u8
         ensures value { result ≡ transaction_letter self }
         ensures named { transaction_in result ≡ Some self }
@@ -83,10 +92,12 @@ impl Transaction {
     }
 }
 
-// How much an extract covers.
+/// How much an extract covers, by the letter of its HD row.
 #[derive(Clone, Copy, Debug, PartialEq, Eq)]
 pub enum Coverage {
+    /// F: a full timetable.
     Full = b'F' as isize,
+    /// U: what changes after the extract that it names as the last.
     Update = b'U' as isize,
 }
 
@@ -105,6 +116,7 @@ impl TryFrom<char> for Coverage {
 }
 
 impl Coverage {
+    /// The letter, in upper case.
     pub fn letter(self) -> u8
         ensures value { result ≡ coverage_letter self }
         ensures named { coverage_in result ≡ Some self }
