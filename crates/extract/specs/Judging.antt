@@ -1,5 +1,6 @@
 -- Why a row that was read is turned away.
-use Rattle.std.specs.Prelude.{◌≡◌, ℕ, Bool, true, false, cond, not, ◌&&◌, ◌||◌, List, [], ◌∷◌, ◌++◌, length, Some, None, Ok, Err, Result, nat_le}
+use Rattle.std.specs.Prelude.{◌≡◌, ℕ, Bool, true, false, cond, not, ◌&&◌, ◌||◌, List, [], ◌∷◌, ◌++◌, length, is_some, Some, None, Ok, Err, Result, nat_le}
+use Rattle.std.specs.Option.{option_map_or}
 use Rattle.std.specs.Str.{bytes_eq}
 use Rattle.forms.specs.declared.letters.Coverage.{Coverage}
 use Rattle.forms.specs.declared.letters.Coverage.TheVariants.{Full, Update}
@@ -9,7 +10,7 @@ use Rattle.cif.specs.declared.content.Change.{Change as Asked}
 use Rattle.cif.specs.declared.content.Change.TheVariants.{New as AsksNew}
 use Rattle.cif.specs.declared.content.Location.{Location}
 use Rattle.cif.specs.declared.content.Content.{Content}
-use Rattle.cif.specs.declared.content.Content.TheVariants.{Header, Schedule, Origin, Intermediate, Terminus}
+use Rattle.cif.specs.Contents.{header_of, basic_schedule_of, location_of}
 use Rattle.cif.specs.declared.identity.Identity.{Identity}
 use Rattle.cif.specs.declared.identity.Identity.TheVariants.{Trailer, Header as IsHeader}
 use Rattle.cif.specs.declared.refusal.Refusal.TheVariants.{OutOfPlace, ReferenceMismatch, KeyPresent, KeyAbsent, TooManyRows, StoreFull}
@@ -53,8 +54,7 @@ mismatches in_force h =
 
 -- an HD whose references do not fit
 abbrev pub references_fail : Standing → Content → Bool
-references_fail s (Header h) = mismatches s.reference h
-references_fail s _ = false
+references_fail s c = option_map_or (mismatches s.reference) (header_of c) false
 
 -- a BS asks for a new schedule, N
 abbrev pub asks_new : Asked → Bool
@@ -63,13 +63,11 @@ asks_new _ = false
 
 -- a BS with N that passes a test
 abbrev pub is_new_with : (BasicSchedule → Bool) → Content → Bool
-is_new_with test (Schedule b) = asks_new b.change && test b
-is_new_with test _ = false
+is_new_with test c = option_map_or (λ b. asks_new b.change && test b) (basic_schedule_of c) false
 
 -- a BS with R or D that passes a test
 abbrev pub is_old_with : (BasicSchedule → Bool) → Content → Bool
-is_old_with test (Schedule b) = not (asks_new b.change) && test b
-is_old_with test _ = false
+is_old_with test c = option_map_or (λ b. not (asks_new b.change) && test b) (basic_schedule_of c) false
 
 -- the key of a BS is in the overlay
 abbrev pub is_there : Standing → BasicSchedule → Bool
@@ -77,15 +75,11 @@ is_there s b = has_key (overlay_in s).map (key_in b)
 
 -- a location is judged by the schedule that is being read: a 49th kept call, a third kept call at one TIPLOC
 abbrev pub location_lines : Standing → Content → List TableLine
-location_lines s (Origin l) = bringing_lines s.extract.draft l
-location_lines s (Intermediate l) = bringing_lines s.extract.draft l
-location_lines s (Terminus l) = bringing_lines s.extract.draft l
-location_lines s _ = []
+location_lines s c = option_map_or (bringing_lines s.extract.draft) (location_of c) []
 
 -- a BS comes after 32 transactions
 abbrev pub past_transactions : Standing → Content → Bool
-past_transactions s (Schedule b) = nat_le 32 (length s.extract.changes)
-past_transactions s _ = false
+past_transactions s c = is_some (basic_schedule_of c) && nat_le 32 (length s.extract.changes)
 
 -- 9,999 rows are taken and this is not ZZ
 abbrev pub past_rows : Standing → Content → Bool

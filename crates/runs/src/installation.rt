@@ -10,7 +10,7 @@ use crate::call::Call;
 use board::display::Board;
 use board::line::Line;
 use controller::answer::Answer;
-use controller::asked::tell;
+use controller::questions::tell;
 use controller::controller::Controller;
 use timetable::Store;
 
