@@ -9,8 +9,8 @@ pub record Date : Type 0 where
   pub day : ℕ
 
 -- the calendar has the date
-abbrev pub Real : Date → Type 0
-Real x = exists x.year x.month x.day ≡ true
+abbrev pub IsDate : Date → Type 0
+IsDate x = exists x.year x.month x.day ≡ true
 
 -- the number of a date
 abbrev pub number_of : Date → ℕ
@@ -28,13 +28,13 @@ tomorrow x =
 -- the numbering is the calendar's: it begins at 0, and the next date has the next number and the next weekday
 pub record NumbersTheDays : Type 0 where
   pub begins : number_of (record { year = 0; month = 1; day = 1 }) ≡ 0
-  pub follows : (x : Date) → Real x → number_of (tomorrow x) ≡ number_of x + 1
-  pub turns : (x : Date) → Real x → weekday (number_of (tomorrow x)) ≡ (weekday (number_of x) + 1) % 7
+  pub follows : (x : Date) → IsDate x → number_of (tomorrow x) ≡ number_of x + 1
+  pub turns : (x : Date) → IsDate x → weekday (number_of (tomorrow x)) ≡ (weekday (number_of x) + 1) % 7
 
 -- the numbers of all dates of the hundred years lie from 0 to the last day's
 abbrev pub StaysInRange : ℕ → Type 0
-StaysInRange last = (x : Date) → Real x → number_of x ≤ last
+StaysInRange last = (x : Date) → IsDate x → number_of x ≤ last
 
 -- two dates with one number are one date
 abbrev pub TellsDatesApart : Type 0
-TellsDatesApart = (x y : Date) → Real x → Real y → number_of x ≡ number_of y → x ≡ y
+TellsDatesApart = (x y : Date) → IsDate x → IsDate y → number_of x ≡ number_of y → x ≡ y

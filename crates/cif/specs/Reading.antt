@@ -60,8 +60,8 @@ abbrev pub told_in : List ℕ → ColumnFault → RowFault
 told_in row fault = in_row (cond (nat_le (number_of fault.refusal) 3) blanks (letters_in row)) fault
 
 -- the fault that the table gives
-abbrev pub by_table : List ℕ → Option RowFault
-by_table row = option_map (told_in row) (uppermost (reading_lines row))
+abbrev pub fault_by_table : List ℕ → Option RowFault
+fault_by_table row = option_map (told_in row) (uppermost (reading_lines row))
 
 -- a row of each identity is refused by the uppermost line of its fields, and read where none holds
 abbrev pub LeftmostIsTold : Type 0

@@ -50,8 +50,8 @@ missing None = true
 missing _ = false
 
 -- the line of a field: it lacks its form
-abbrev pub lacks : {X : Type 0} → ℕ → Option X → TableLine
-lacks column reading = line BadForm column (missing reading)
+abbrev pub form_line : {X : Type 0} → ℕ → Option X → TableLine
+form_line column reading = line BadForm column (missing reading)
 
 -- a field's reading, or the fault that it lacks its form
 abbrev pub formed : {X : Type 0} → ℕ → Option X → Result X ColumnFault

@@ -26,15 +26,15 @@ letters_of Association = codes "AA"
 letters_of Trailer = codes "ZZ"
 
 -- the identity whose letters they are
-abbrev pub named : List Identity → ℕ → ℕ → Option Identity
-named [] a b = None
-named (i ∷ is) a b =
-    if a == slice_index (letters_of i) 0 && b == slice_index (letters_of i) 1 then Some i else named is a b
+abbrev pub identity_among : List Identity → ℕ → ℕ → Option Identity
+identity_among [] a b = None
+identity_among (i ∷ is) a b =
+    if a == slice_index (letters_of i) 0 && b == slice_index (letters_of i) 1 then Some i else identity_among is a b
 
 -- the identity of two letters, if they are those of one
 abbrev pub identity_of : ℕ → ℕ → Option Identity
 identity_of a b =
-    named (Header ∷ BasicSchedule ∷ BasicExtra ∷ Origin ∷ Intermediate ∷ Terminus ∷ ChangeEnRoute ∷ LocationInsert ∷ LocationAmend ∷ LocationDelete ∷ Association ∷ Trailer ∷ []) a b
+    identity_among (Header ∷ BasicSchedule ∷ BasicExtra ∷ Origin ∷ Intermediate ∷ Terminus ∷ ChangeEnRoute ∷ LocationInsert ∷ LocationAmend ∷ LocationDelete ∷ Association ∷ Trailer ∷ []) a b
 
 -- the result is the identity that two letters name, or the letters that name none
 abbrev pub Names : List ℕ → Result Identity NoIdentity → Type 0

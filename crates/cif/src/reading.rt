@@ -1,7 +1,7 @@
 // Any bytes as a row by itself.
 ghost use Rattle.std.specs.Prelude.{◌≡◌};
 ghost use Rattle.cif.specs.Refusals.{fault_of};
-ghost use Rattle.cif.specs.Reading.{letters_in, content_in, read_in, by_table, LeftmostIsTold};
+ghost use Rattle.cif.specs.Reading.{letters_in, content_in, read_in, fault_by_table, LeftmostIsTold};
 ghost use Rattle.cif.specs.WholeRows.{row_bytes, row_identity};
 
 use crate::content::Content;
@@ -45,7 +45,7 @@ fn read_in_order(bytes: &[u8]) -> Result<Content, RowFault>
 /// What bytes hold as a row, or the fault that the table of refusals gives. The bytes may be any, and of any length.
 pub fn read(bytes: &[u8]) -> Result<Content, RowFault>
     ensures value { result ≡ read_in bytes.now }
-    ensures told { fault_of result ≡ by_table bytes.now }
+    ensures told { fault_of result ≡ fault_by_table bytes.now }
 {
     read_in_order(bytes)
 }

@@ -1,6 +1,6 @@
 // Fields of one letter.
 ghost use Rattle.std.specs.Prelude.{◌≡◌, Some};
-ghost use Rattle.forms.specs.Letters.{stp_letter, transaction_letter, coverage_letter, stp_in, transaction_in, coverage_in, named_by};
+ghost use Rattle.forms.specs.Letters.{stp_letter, transaction_letter, coverage_letter, stp_in, transaction_in, coverage_in, case_or_letter};
 
 use std::error::Error;
 use std::fmt;
@@ -33,7 +33,7 @@ pub enum Stp {
 impl TryFrom<char> for Stp {
     type Error = UnknownLetter;
 
-    ghost try_from_gives = { λ letter r. r ≡ named_by (stp_in letter) letter };
+    ghost try_from_gives = { λ letter r. r ≡ case_or_letter (stp_in letter) letter };
 
     fn try_from(letter: char) -> Result<Self, UnknownLetter> {
         match letter {
@@ -70,7 +70,7 @@ pub enum Transaction {
 impl TryFrom<char> for Transaction {
     type Error = UnknownLetter;
 
-    ghost try_from_gives = { λ letter r. r ≡ named_by (transaction_in letter) letter };
+    ghost try_from_gives = { λ letter r. r ≡ case_or_letter (transaction_in letter) letter };
 
     fn try_from(letter: char) -> Result<Self, UnknownLetter> {
         match letter {
@@ -104,7 +104,7 @@ pub enum Coverage {
 impl TryFrom<char> for Coverage {
     type Error = UnknownLetter;
 
-    ghost try_from_gives = { λ letter r. r ≡ named_by (coverage_in letter) letter };
+    ghost try_from_gives = { λ letter r. r ≡ case_or_letter (coverage_in letter) letter };
 
     fn try_from(letter: char) -> Result<Self, UnknownLetter> {
         match letter {
