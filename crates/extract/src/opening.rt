@@ -43,6 +43,7 @@ impl Extract {
         }
     }
 
+    /// The stage of the open extract.
     pub fn stage(&self) -> Stage
         ensures { result ≡ self.now.stage }
     {
