@@ -14,7 +14,7 @@ use Rattle.extract.specs.declared.stage.Stage.{Stage}
 use Rattle.extract.specs.declared.stage.Stage.TheVariants.{Idle, Complete}
 use Rattle.extract.specs.Stages.{is_stage}
 use Rattle.extract.specs.Progress.{Progress}
-use Rattle.extract.specs.Judging.{Standing, content_lines, taken_unless, is_misplaced, is_no_opening}
+use Rattle.extract.specs.Judging.{Standing, content_lines, verdict_unless, is_misplaced, is_no_opening}
 use Rattle.controller.specs.declared.fault.ExtractFault.{ExtractFault}
 use Rattle.controller.specs.Faults.{in_extract}
 
@@ -98,7 +98,7 @@ abbrev pub refusal_of : Call → Standing → ℕ → Option ExtractFault
 refusal_of call s slots = option_map (told_with call s) (uppermost (refusals call s slots))
 
 -- the same of a row as it is heard step by step: is it a row, is it in place, are its fields in form, does no line of the table hold
-abbrev pub heard_by : (Stage → Identity → Bool) → Standing → List ℕ → Result Progress RowFault
-heard_by misplaced s row =
+abbrev pub bytes_verdict : (Stage → Identity → Bool) → Standing → List ℕ → Result Progress RowFault
+bytes_verdict misplaced s row =
     then (raised (in_row blanks) (whole_in row)) (λ i.
-    raised (in_row (letters_in row)) (taken_unless (misplaced s.extract.stage i) s i row))
+    raised (in_row (letters_in row)) (verdict_unless (misplaced s.extract.stage i) s i row))

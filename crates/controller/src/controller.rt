@@ -32,11 +32,11 @@ impl<S: Store> Controller<S> {
     ghost use Rattle.timetable.specs.Timetables.{IsWithinCapacity};
     ghost use Rattle.board.specs.Boards.{shown_of, lines_of, slots_of, SlotsKept};
     ghost use Rattle.extract.specs.Progress.{idle, after_row};
-    ghost use Rattle.controller.specs.Calls.{Open as ToOpen, Row as ToHear, Abandon as ToAbandon, refusal_of, heard_by, Confirm as ToConfirm, confirm_lines, Turn as ToTurn};
-    ghost use Rattle.controller.specs.Ledger.{new_ledger, answered};
+    ghost use Rattle.controller.specs.Calls.{Open as ToOpen, Row as ToHear, Abandon as ToAbandon, refusal_of, bytes_verdict, Confirm as ToConfirm, confirm_lines, Turn as ToTurn};
+    ghost use Rattle.controller.specs.Ledger.{new_ledger, answer_of};
     ghost use Rattle.controller.specs.Keeping.{state_in, KeepsTo, Obeys};
     ghost use Rattle.controller.specs.Shown.{store_of, reference_of, count_of, progress_in, standing_in, SameButExtract};
-    ghost use Rattle.extract.specs.Judging.{is_misplaced, is_no_opening, Told};
+    ghost use Rattle.extract.specs.Judging.{is_misplaced, is_no_opening, GoesBy};
     ghost use Rattle.overlay.specs.Settling.{after_tries};
     ghost use Rattle.board.specs.Lines.{LinesFor, BoardOf};
 
@@ -61,12 +61,15 @@ impl<S: Store> Controller<S> {
     /// Opens an extract with its HD row, any bytes of any length. What is refused, and with what, is in docs/refusals.md; then
     /// nothing changes.
     pub fn open(&mut self, row: &[u8]) -> Result<(), ExtractFault>
-        ensures told { fault_of result ≡ refusal_of (ToOpen row.now) (standing_in S.meaning self.old) 0 }
-        ensures taken { OnOk result (progress_in self.new ≡ after_row (progress_in self.old) row.now) }
+        ensures told { fault_of result
+            ≡ refusal_of (ToOpen row.now) (standing_in S.meaning self.old) 0 }
+        ensures taken { OnOk result
+            (progress_in self.new ≡ after_row (progress_in self.old) row.now) }
         ensures unchanged { OnErr result (self.new ≡ self.old) }
         ensures rest { SameButExtract self.old self.new }
-        ensures obeys { (b : Board) → Obeys (state_in S.meaning self.old b) (state_in S.meaning self.new b)
-            (ToOpen row.now) (answered result) }
+        ensures obeys { (b : Board)
+            → Obeys (state_in S.meaning self.old b) (state_in S.meaning self.new b)
+            (ToOpen row.now) (answer_of result) }
     {
         let number = self.extract.rows_taken() + 1;
         numbered(self.hear_opening(row), number)
@@ -75,12 +78,15 @@ impl<S: Store> Controller<S> {
     /// Takes a row of the open extract that is not its HD, any bytes of any length. What is refused, and with what, is in
     /// docs/refusals.md; then nothing changes.
     pub fn row(&mut self, row: &[u8]) -> Result<(), ExtractFault>
-        ensures told { fault_of result ≡ refusal_of (ToHear row.now) (standing_in S.meaning self.old) 0 }
-        ensures taken { OnOk result (progress_in self.new ≡ after_row (progress_in self.old) row.now) }
+        ensures told { fault_of result
+            ≡ refusal_of (ToHear row.now) (standing_in S.meaning self.old) 0 }
+        ensures taken { OnOk result
+            (progress_in self.new ≡ after_row (progress_in self.old) row.now) }
         ensures unchanged { OnErr result (self.new ≡ self.old) }
         ensures rest { SameButExtract self.old self.new }
-        ensures obeys { (b : Board) → Obeys (state_in S.meaning self.old b) (state_in S.meaning self.new b)
-            (ToHear row.now) (answered result) }
+        ensures obeys { (b : Board)
+            → Obeys (state_in S.meaning self.old b) (state_in S.meaning self.new b)
+            (ToHear row.now) (answer_of result) }
     {
         let number = self.extract.rows_taken() + 1;
         numbered(self.hear(row), number)
@@ -92,8 +98,9 @@ impl<S: Store> Controller<S> {
         ensures dropped { OnOk result (progress_in self.new ≡ idle) }
         ensures unchanged { OnErr result (self.new ≡ self.old) }
         ensures rest { SameButExtract self.old self.new }
-        ensures obeys { (b : Board) → Obeys (state_in S.meaning self.old b) (state_in S.meaning self.new b)
-            ToAbandon (answered result) }
+        ensures obeys { (b : Board)
+            → Obeys (state_in S.meaning self.old b) (state_in S.meaning self.new b)
+            ToAbandon (answer_of result) }
     {
         without_row(self.extract.abandon())?;
         self.overlay.pending.clear();
@@ -102,8 +109,8 @@ impl<S: Store> Controller<S> {
 
     // Takes a row by the stage, or tells the fault with the row's identity.
     pub(crate) fn hear(&mut self, bytes: &[u8]) -> Result<(), RowFault>
-        ensures told { Told (progress_in self.new)
-            (heard_by is_misplaced (standing_in S.meaning self.old) bytes.now) result }
+        ensures told { GoesBy (progress_in self.new)
+            (bytes_verdict is_misplaced (standing_in S.meaning self.old) bytes.now) result }
         ensures unchanged { OnErr result (self.new ≡ self.old) }
         ensures rest { SameButExtract self.old self.new }
     {
@@ -115,8 +122,8 @@ impl<S: Store> Controller<S> {
 
     // Opens an extract, or tells the fault with the row's identity.
     pub(crate) fn hear_opening(&mut self, bytes: &[u8]) -> Result<(), RowFault>
-        ensures told { Told (progress_in self.new)
-            (heard_by is_no_opening (standing_in S.meaning self.old) bytes.now) result }
+        ensures told { GoesBy (progress_in self.new)
+            (bytes_verdict is_no_opening (standing_in S.meaning self.old) bytes.now) result }
         ensures unchanged { OnErr result (self.new ≡ self.old) }
         ensures rest { SameButExtract self.old self.new }
     {
@@ -156,8 +163,9 @@ impl<S: Store> Controller<S> {
         ensures shown { shown_of board.new ≡ shown_of board.old }
         ensures slots { SlotsKept board.old board.new }
         ensures unchanged { OnErr result ((self.new ≡ self.old) × (board.new ≡ board.old)) }
-        ensures obeys { Obeys (state_in S.meaning self.old board.old) (state_in S.meaning self.new board.new)
-            ToConfirm (answered result) }
+        ensures obeys { Obeys (state_in S.meaning self.old board.old)
+            (state_in S.meaning self.new board.new)
+            ToConfirm (answer_of result) }
     {
         without_row(self.may_confirm(board))?;
         let count = self.overlay.pending.len() as u32;
@@ -183,12 +191,14 @@ impl<S: Store> Controller<S> {
             (slots_of board.old) }
         ensures lines { OnOk result
             (BoardOf (S.meaning (store_of self.old)).map station.now day (lines_of board.new)) }
-        ensures set { OnOk result (shown_of board.new ≡ Some (record { station = station.now; day = day })) }
+        ensures set { OnOk result
+            (shown_of board.new ≡ Some (record { station = station.now; day = day })) }
         ensures slots { SlotsKept board.old board.new }
         ensures unchanged { OnErr result (board.new ≡ board.old) }
         ensures same { self.new ≡ self.old }
-        ensures obeys { Obeys (state_in S.meaning self.old board.old) (state_in S.meaning self.new board.new)
-            (ToTurn station.now day) (answered result) }
+        ensures obeys { Obeys (state_in S.meaning self.old board.old)
+            (state_in S.meaning self.new board.new)
+            (ToTurn station.now day) (answer_of result) }
     {
         without_row(board.turn(&mut self.overlay.store, station, day))
     }

@@ -114,38 +114,38 @@ content_lines s c =
     ∷ [])
 
 -- a value, unless a line of a table holds: the uppermost is told
-abbrev pub judged : {X : Type 0} → List TableLine → X → Result X ColumnFault
-judged ls x = elim (uppermost ls) [ Some f ↦ Err f | None ↦ Ok x ]
+abbrev pub value_unless : {X : Type 0} → List TableLine → X → Result X ColumnFault
+value_unless ls x = elim (uppermost ls) [ Some f ↦ Err f | None ↦ Ok x ]
 
 -- a row that was read is taken where no line holds
-abbrev pub admitted : Standing → Content → Result Progress ColumnFault
-admitted s c = judged (content_lines s c) (after s.extract c)
+abbrev pub verdict_on : Standing → Content → Result Progress ColumnFault
+verdict_on s c = value_unless (content_lines s c) (after s.extract c)
 
 -- a row that is out of place is turned away, then one whose fields lack their form, then one for which a line holds
-abbrev pub taken_unless : Bool → Standing → Identity → List ℕ → Result Progress ColumnFault
-taken_unless misplaced s i row = cond misplaced (Err (fault_at OutOfPlace 1)) (then (content_in i row) (λ c. admitted s c))
+abbrev pub verdict_unless : Bool → Standing → Identity → List ℕ → Result Progress ColumnFault
+verdict_unless misplaced s i row = cond misplaced (Err (fault_at OutOfPlace 1)) (then (content_in i row) (λ c. verdict_on s c))
 
 -- to the call row a row is out of place where the stage does not take it; an HD is always out of place there
 abbrev pub is_misplaced : Stage → Identity → Bool
 is_misplaced stage i = is_identity i IsHeader || missing (next_stage stage i false)
 
 -- what the call row makes of a row of an identity
-abbrev pub taken_by : Standing → Identity → List ℕ → Result Progress ColumnFault
-taken_by s i row = taken_unless (is_misplaced s.extract.stage i) s i row
+abbrev pub row_verdict : Standing → Identity → List ℕ → Result Progress ColumnFault
+row_verdict s i row = verdict_unless (is_misplaced s.extract.stage i) s i row
 
 -- to the call open only an HD when idle is in place
 abbrev pub is_no_opening : Stage → Identity → Bool
 is_no_opening stage i = not (is_stage stage Idle && is_identity i IsHeader)
 
 -- what the call open makes of a row of an identity
-abbrev pub opened_by : Standing → Identity → List ℕ → Result Progress ColumnFault
-opened_by s i row = taken_unless (is_no_opening s.extract.stage i) s i row
+abbrev pub open_verdict : Standing → Identity → List ℕ → Result Progress ColumnFault
+open_verdict s i row = verdict_unless (is_no_opening s.extract.stage i) s i row
 
 -- abandon has nothing to drop when idle
 abbrev pub idle_lines : Stage → List TableLine
 idle_lines stage = line OutOfPlace 0 (is_stage stage Idle) ∷ []
 
 -- a call did what the rule says: the extract is what it gives, or it tells the rule's fault
-abbrev pub Told : {X E : Type 0} → X → Result X E → Result (Unit {0}) E → Type 0
-Told after rule (Ok u) = rule ≡ Ok after
-Told after rule (Err e) = rule ≡ Err e
+abbrev pub GoesBy : {X E : Type 0} → X → Result X E → Result (Unit {0}) E → Type 0
+GoesBy after rule (Ok u) = rule ≡ Ok after
+GoesBy after rule (Err e) = rule ≡ Err e

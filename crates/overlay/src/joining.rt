@@ -19,6 +19,7 @@ impl Pending {
         }
     }
 
+    /// What is pending, in the order in which it joined.
     pub fn as_slice(&self) -> &[Change]
         ensures { result.now ≡ pending_in self.now }
     {
@@ -34,6 +35,7 @@ impl Pending {
         }
     }
 
+    /// How many transactions are pending.
     pub fn len(&self) -> usize
         ensures { result ≡ length (pending_in self.now) }
     {

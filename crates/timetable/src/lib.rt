@@ -27,10 +27,8 @@ pub trait Timetable {
     /// Whether a key is there. Its schedule is copied to `place`, which is left as it was where the key is absent.
     fn find(&mut self, key: Key, place: &mut Schedule) -> bool
         ensures found { result ≡ is_some (schedule_of (meaning self.old).map key) }
-        ensures copied {
-            record_of place.new
-            ≡ unwrap_or (schedule_of (meaning self.old).map key) (record_of place.old)
-        }
+        ensures copied { record_of place.new
+            ≡ unwrap_or (schedule_of (meaning self.old).map key) (record_of place.old) }
         ensures left { OnFalse result (place.new ≡ place.old) }
         ensures same { self.new ≡ self.old };
 
@@ -54,10 +52,9 @@ pub trait Store: Timetable {
 
     /// Sets the schedule of its key. It is refused, with no change, only where the key is absent and the count equals the capacity.
     fn put(&mut self, schedule: Schedule) -> Result<(), Full>
-        ensures puts {
-            PutsSchedule (Self.meaning self.old) (Self.meaning self.new) (record_of schedule)
-                (is_ok result)
-        }
+        ensures puts { PutsSchedule (Self.meaning self.old) (Self.meaning self.new)
+            (record_of schedule)
+            (is_ok result) }
         ensures unchanged { OnErr result (self.new ≡ self.old) }
         ensures within { IsWithinCapacity (Self.meaning self.new) };
 
