@@ -1,6 +1,9 @@
 // What a row is, by its first two columns.
-ghost use Rattle.std.specs.Prelude.{◌≡◌};
+ghost use Rattle.std.specs.Prelude.{◌≡◌, Some, codes};
 ghost use Rattle.cif.specs.Rows.{letters_of, Names};
+
+use std::error::Error;
+use std::fmt;
 
 /// What a row is, by the two letters that it begins with.
 #[derive(Clone, Copy, Debug, PartialEq, Eq)]
@@ -34,6 +37,16 @@ pub enum Identity {
 /// Two letters that no row begins with.
 #[derive(Clone, Copy, Debug, PartialEq, Eq)]
 pub struct UnknownIdentity(pub [u8; 2]);
+
+impl fmt::Display for UnknownIdentity {
+    ghost output = { λ _. Some (codes "no row begins with these letters") };
+
+    fn fmt<W: fmt::Write>(&self, f: &mut fmt::Formatter<W>) -> fmt::Result {
+        f.write_str("no row begins with these letters")
+    }
+}
+
+impl Error for UnknownIdentity {}
 
 impl TryFrom<[u8; 2]> for Identity {
     type Error = UnknownIdentity;

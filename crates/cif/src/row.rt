@@ -5,10 +5,13 @@ ghost use Rattle.cif.specs.Rows.{first_bad};
 
 use crate::identity::Identity;
 
+/// How many bytes a row has. Its columns count from 1.
+pub const ROW_LENGTH: usize = 80;
+
 /// A row that was found whole: 80 bytes, each from 32 to 126, and their identity.
 #[derive(Clone, Copy, Debug, PartialEq, Eq)]
 pub struct Row {
-    pub(crate) bytes: [u8; 80],
+    pub(crate) bytes: [u8; ROW_LENGTH],
     pub(crate) identity: Identity,
     ghost long: { length bytes ≡ 80 },
     ghost printable: { IsTrue (missing (first_bad bytes)) },

@@ -9,7 +9,7 @@ ghost use Rattle.cif.specs.WholeRows.{row_bytes, row_identity};
 
 use crate::identity::Identity;
 use crate::refusal::{ColumnFault, Refusal};
-use crate::row::Row;
+use crate::row::{ROW_LENGTH, Row};
 
 // Whether a byte is printable.
 fn is_printable(b: u8) -> bool
@@ -20,7 +20,7 @@ fn is_printable(b: u8) -> bool
 
 // The column of the first byte of a row that is not printable.
 fn first_bad(bytes: &[u8]) -> Option<u8>
-    requires { length bytes.now ≡ 80 }
+    requires { length bytes.now ≡ ROW_LENGTH }
     ensures { result ≡ first_bad bytes.now }
 {
     let index = bytes.iter().position(|b| !is_printable(*b))?;
@@ -35,7 +35,7 @@ impl Row {
             (λ e. whole_in bytes.now ≡ Err e) }
         ensures told { fault_of result ≡ uppermost (row_lines bytes.now) }
     {
-        let Ok(bytes) = <[u8; 80]>::try_from(bytes) else {
+        let Ok(bytes) = <[u8; ROW_LENGTH]>::try_from(bytes) else {
             return Err(Refusal::RowLength.at(0));
         };
         if let Some(column) = first_bad(&bytes) {
@@ -58,7 +58,7 @@ impl Row {
     pub(crate) fn columns(&self, first: usize, last: usize) -> &[u8]
         requires from { 1 ≤ first }
         requires order { first ≤ last }
-        requires within { last ≤ 80 }
+        requires within { last ≤ ROW_LENGTH }
         ensures { result.now ≡ columns first last (row_bytes self.now) }
     {
         &self.bytes[first - 1..last]
@@ -67,7 +67,7 @@ impl Row {
     // The byte at a column.
     pub(crate) fn byte(&self, column: usize) -> u8
         requires from { 1 ≤ column }
-        requires within { column ≤ 80 }
+        requires within { column ≤ ROW_LENGTH }
         ensures { result ≡ byte_at column (row_bytes self.now) }
     {
         self.bytes[column - 1]
@@ -82,7 +82,7 @@ impl Row {
     ) -> Result<T, ColumnFault>
         requires from { 1 ≤ first }
         requires order { first ≤ last }
-        requires within { last ≤ 80 }
+        requires within { last ≤ ROW_LENGTH }
         requires callable { F.IsAlwaysCallable read }
         ensures { (found : Option T)
             × FnOnceReturnsAt F.FnOnce read (columns first last (row_bytes self.now)) found
@@ -96,7 +96,7 @@ impl Row {
     where
         L::Error: Drop,
         requires from { 1 ≤ column }
-        requires within { column ≤ 80 }
+        requires within { column ≤ ROW_LENGTH }
         ensures { (found : Result L L.Error)
             × L.try_from_gives (byte_at column (row_bytes self.now)) found
             × (result ≡ formed column (result_ok found)) }

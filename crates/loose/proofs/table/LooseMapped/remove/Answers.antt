@@ -6,15 +6,15 @@ use Rattle.loose.proofs.table.LooseMapped.remove.Goals as goal
 
 pub invariant_of-self : goal.invariant_of-self
 invariant_of-self g c =
-    let found = subst (λ xs. StandsFirstAt g.E.Key.KeyOrder.before g.E.Keyed.keyed xs c.args.key c.in-Some.place) c.held.ensures c.in-Some.ensures in
+    let found = subst (λ xs. StandsFirstAt g.E.Key.KeyOrder.before g.E.Keyed.keyed xs c.args.key c.in-Some.place) c.as_slice.ensures c.in-Some.ensures in
     record { distinct = swap_apart g.E.Key.KeyOrder.before g.E.Keyed.keyed (lawful g.met.E.Key.KeyOrder) _ _ _ _ found c.take_out.ensures.items c.args.self.now.distinct }
 
 pub returns-in-Some-clause-removed : goal.returns-in-Some-clause-removed
 returns-in-Some-clause-removed g c =
-    let found = subst (λ xs. StandsFirstAt g.E.Key.KeyOrder.before g.E.Keyed.keyed xs c.args.key c.in-Some.place) c.held.ensures c.in-Some.ensures in
+    let found = subst (λ xs. StandsFirstAt g.E.Key.KeyOrder.before g.E.Keyed.keyed xs c.args.key c.in-Some.place) c.as_slice.ensures c.in-Some.ensures in
     removed_found g.E.Key.KeyOrder.before g.E.Keyed.keyed (lawful g.met.E.Key.KeyOrder) _ _ _ _ found c.take_out.ensures.items c.args.self.now.distinct
 
 pub returns-in-None-clause-removed : goal.returns-in-None-clause-removed
 returns-in-None-clause-removed g c =
     removed_passed g.E.Key.KeyOrder.before g.E.Keyed.keyed (lawful g.met.E.Key.KeyOrder) _ _ c.args.key
-    (subst (λ xs. NoneOfKey g.E.Key.KeyOrder.before g.E.Keyed.keyed xs c.args.key (length xs)) c.held.ensures c.in-None.ensures) refl
+    (subst (λ xs. NoneOfKey g.E.Key.KeyOrder.before g.E.Keyed.keyed xs c.args.key (length xs)) c.as_slice.ensures c.in-None.ensures) refl
