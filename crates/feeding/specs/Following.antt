@@ -7,7 +7,7 @@ use Rattle.feeding.specs.declared.follow.Followed.{Followed}
 
 -- the board has the lines that the store's map gives for its station and day, none without a station
 abbrev pub Follows : {S : Type 0} → (S → List Record) → Followed S → Type 0
-Follows map f = LinesFor (map f.controller.overlay.store) f.board.shown (items f.board.lines.inner)
+Follows map f = LinesFor (map f.controller.overlay.store) f.board.shown (items f.board.lines.elements)
 
 -- the store and the board are the same
 abbrev pub SameStoreAndBoard : {S : Type 0} → Followed S → Followed S → Type 0

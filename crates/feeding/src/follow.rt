@@ -46,7 +46,7 @@ impl<'a, 'b, S: Store + Drop> Followed<'a, 'b, S> {
     pub fn new(store: S, lines: &'b mut [Line], wanted: Wanted<'a>) -> Followed<'a, 'b, S>
         ensures store { result.controller.overlay.store ≡ store }
         ensures idle { progress_in result.controller ≡ idle }
-        ensures slots { room result.board.lines.inner ≡ length lines.old }
+        ensures slots { room result.board.lines.elements ≡ length lines.old }
         ensures follows { Follows (S.meaning result).map }
     {
         let most = lines.len();
@@ -121,7 +121,7 @@ impl<'a, 'b, S: Store + Drop> Followed<'a, 'b, S> {
     // Confirms the open extract, or drops it where a row of it was refused or it is not complete.
     fn end(&mut self) -> Outcome
         ensures spoiled { 0 < self.old.refused → (result ≡ Outcome.Abandoned self.old.refused) × SameStoreAndBoard self.old self.new }
-        ensures whole { self.old.refused ≡ 0 → is_stage (progress_in self.old.controller).stage Complete ≡ true → 2 * (S.meaning self.old.controller.overlay.store).capacity ≤ room self.old.board.lines.inner → result ≡ Outcome.Confirmed }
+        ensures whole { self.old.refused ≡ 0 → is_stage (progress_in self.old.controller).stage Complete ≡ true → 2 * (S.meaning self.old.controller.overlay.store).capacity ≤ room self.old.board.lines.elements → result ≡ Outcome.Confirmed }
         ensures confirmed { result ≡ Outcome.Confirmed → (S.meaning self.new.controller.overlay.store).map ≡ tried_all (S.meaning self.old.controller.overlay.store).capacity (S.meaning self.old.controller.overlay.store).map (progress_in self.old.controller).changes }
         ensures follows { Follows (S.meaning self.old).map → Follows (S.meaning self.new).map }
         ensures idle { is_stage (progress_in self.old.controller).stage Idle ≡ false → progress_in self.new.controller ≡ idle }

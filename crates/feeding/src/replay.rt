@@ -114,7 +114,7 @@ fn print_end<S: Store>(
 
 // Whether two boards show the same lines, of so many at the most.
 fn is_same(left: &mut Board, right: &mut Board, most: usize) -> bool
-    ensures value { IsTrue result ↔ ((k : ℕ) → k < most → slice_get (items left.old.lines.inner) k ≡ slice_get (items right.old.lines.inner) k) }
+    ensures value { IsTrue result ↔ ((k : ℕ) → k < most → slice_get (items left.old.lines.elements) k ≡ slice_get (items right.old.lines.elements) k) }
     ensures same { (left.new ≡ left.old) × (right.new ≡ right.old) }
 {
     for place in 0..most {

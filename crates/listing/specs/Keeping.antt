@@ -5,4 +5,4 @@ use Rattle.listing.specs.declared.keeping.Both.{Both}
 
 -- each can hold as many schedules in the one pair as in the other
 abbrev pub SameRooms : Both → Both → Type 0
-SameRooms a b = (room b.table.rows.inner ≡ room a.table.rows.inner) × (room b.bag.rows.inner ≡ room a.bag.rows.inner)
+SameRooms a b = (room b.table.rows.elements ≡ room a.table.rows.elements) × (room b.bag.rows.elements ≡ room a.bag.rows.elements)

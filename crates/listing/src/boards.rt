@@ -93,7 +93,7 @@ pub fn print_refused(rt: &HostRuntime, before: &str, refusal: Refusal) -> anyhow
 
 // How many lines a board shows, of so many at the most.
 pub fn shown_lines(shown: &mut Board, most: usize) -> u64
-    ensures value { result ≡ min most (length (items shown.old.lines.inner)) }
+    ensures value { result ≡ min most (length (items shown.old.lines.elements)) }
     ensures same { shown.new ≡ shown.old }
 {
     most.min(shown.len()) as u64

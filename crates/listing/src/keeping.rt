@@ -53,9 +53,9 @@ pub struct Both<'a> {
 impl<'a> Both<'a> {
     // Two empty stores, each over its slots.
     pub fn new(table: &'a mut [Record], bag: &'a mut [Record]) -> Both<'a>
-        ensures empty { (items result.table.rows.inner ≡ []) × (items result.bag.rows.inner ≡ []) }
-        ensures table { room result.table.rows.inner ≡ min (length table.old) 65535 }
-        ensures bag { room result.bag.rows.inner ≡ min (length bag.old) 65535 }
+        ensures empty { (items result.table.rows.elements ≡ []) × (items result.bag.rows.elements ≡ []) }
+        ensures table { room result.table.rows.elements ≡ min (length table.old) 65535 }
+        ensures bag { room result.bag.rows.elements ≡ min (length bag.old) 65535 }
     {
         Both {
             table: Table::new(table),
