@@ -47,8 +47,7 @@ mod tests {
     use super::*;
     use std::process::Abort;
     use std::test::Fail;
-    use stores::bag::Bag;
-    use stores::table::Table;
+    use stores::{Bag, Table};
     use timetable::{Store, Timetable};
 
     fn key(uid: u32, day: u16) -> Key {
