@@ -1,6 +1,6 @@
 // The departure board of a station and date.
 ghost use Rattle.std.specs.Prelude.{◌≡◌, ◌*◌, min, length, IfOk};
-ghost use Rattle.ordered.specs.Tables.{items};
+ghost use Rattle.board.specs.Boards.{lines_of};
 ghost use Rattle.listing.specs.Stations.{filled_up};
 ghost use Rattle.listing.specs.Blanks.{blank_line};
 
@@ -93,7 +93,7 @@ pub fn print_refused(rt: &HostRuntime, before: &str, refusal: Refusal) -> anyhow
 
 // How many lines a board shows, of so many at the most.
 pub fn shown_lines(shown: &mut Board, most: usize) -> u64
-    ensures value { result ≡ min most (length (items shown.old.lines.inner)) }
+    ensures value { result ≡ min most (length (lines_of shown.old)) }
     ensures same { shown.new ≡ shown.old }
 {
     most.min(shown.len()) as u64

@@ -1,8 +1,6 @@
 // The schedules of files put into both stores.
 ghost use Rattle.std.specs.Prelude.{◌≡◌, true, min, [], length};
-ghost use Rattle.ordered.specs.Tables.{items, room};
 ghost use Rattle.schedule.specs.Records.{is_schedule};
-ghost use Rattle.listing.specs.Keeping.{SameRooms};
 
 use crate::drafts::{Asked, Draft};
 use cif::reading::read;
@@ -13,8 +11,7 @@ use schedule::order::next_in_train;
 use schedule::record::Record;
 use schedule::schedule::Schedule;
 use std::fs;
-use stores::bag::Bag;
-use stores::table::Table;
+use stores::{Bag, Table};
 use timetable::{Store, Timetable};
 use wording::changes::{KeyWords, RecordWords};
 
@@ -51,11 +48,14 @@ pub struct Both<'a> {
 }
 
 impl<'a> Both<'a> {
+    ghost use Rattle.listing.specs.Keeping.{table_records, bag_records, table_capacity, bag_capacity, CapacitiesKept};
+
     // Two empty stores, each over its slots.
     pub fn new(table: &'a mut [Record], bag: &'a mut [Record]) -> Both<'a>
-        ensures empty { (items result.table.rows.inner ≡ []) × (items result.bag.rows.inner ≡ []) }
-        ensures table { room result.table.rows.inner ≡ min (length table.old) 65535 }
-        ensures bag { room result.bag.rows.inner ≡ min (length bag.old) 65535 }
+        ensures no_schedule_in_table { table_records result ≡ [] }
+        ensures no_schedule_in_bag { bag_records result ≡ [] }
+        ensures table { table_capacity result ≡ min (length table.old) 65535 }
+        ensures bag { bag_capacity result ≡ min (length bag.old) 65535 }
     {
         Both {
             table: Table::new(table),
@@ -64,7 +64,7 @@ impl<'a> Both<'a> {
     }
 
     fn put(&mut self, schedule: Schedule) -> Option<bool>
-        ensures { SameRooms self.old self.new }
+        ensures { CapacitiesKept self.old self.new }
     {
         let table = self.table.put(schedule).is_ok();
         let bag = self.bag.put(schedule).is_ok();
@@ -72,7 +72,7 @@ impl<'a> Both<'a> {
     }
 
     fn remove(&mut self, key: Key) -> Option<bool>
-        ensures { SameRooms self.old self.new }
+        ensures { CapacitiesKept self.old self.new }
     {
         let table = self.table.remove(key);
         let bag = self.bag.remove(key);
@@ -80,7 +80,7 @@ impl<'a> Both<'a> {
     }
 
     fn do_asked(&mut self, rt: &HostRuntime, asked: Asked) -> anyhow::Result<()>
-        ensures { SameRooms self.old self.new }
+        ensures { CapacitiesKept self.old self.new }
     {
         match asked {
             Asked::Put(schedule) => {
@@ -103,7 +103,7 @@ impl<'a> Both<'a> {
 
     // Does what the rows of a file ask. Both capacities stay.
     pub fn take_file(&mut self, rt: &HostRuntime, name: &str) -> anyhow::Result<()>
-        ensures { SameRooms self.old self.new }
+        ensures { CapacitiesKept self.old self.new }
     {
         let bytes = fs::read(rt, name)?;
         let mut draft = Draft::new();
