@@ -26,7 +26,8 @@ escaped [] = None
 escaped (high ∷ []) = None
 escaped (high ∷ low ∷ rest) = option_map (λ b. (b, rest)) (hex_byte high low)
 
--- the byte that a text begins with, and the text behind it: a `\` begins an escaped byte, every other byte stands for itself
+-- the byte that a text begins with, and the text behind it: a `\` begins an escaped byte, every
+-- other byte stands for itself
 abbrev pub first_meant : List ℕ → Option (ℕ × List ℕ)
 first_meant [] = None
 first_meant (b ∷ rest) = cond (b == 92) (escaped rest) (Some (b, rest))
@@ -35,13 +36,15 @@ abbrev mutual
   -- the bytes that a text stands for, one after another
   pub meant : List ℕ → Option (List ℕ)
   meant [] = Some []
-  meant (b ∷ rest) = cond (b == 92) (meant_escaped rest) (option_map (λ bs. b ∷ bs) (meant rest))
+  meant (b ∷ rest) =
+      cond (b == 92) (meant_escaped rest) (option_map (λ bs. b ∷ bs) (meant rest))
 
   -- those of a text that stands behind a `\`
   pub meant_escaped : List ℕ → Option (List ℕ)
   meant_escaped [] = None
   meant_escaped (high ∷ []) = None
-  meant_escaped (high ∷ low ∷ rest) = and_then (hex_byte high low) (λ b. option_map (λ bs. b ∷ bs) (meant rest))
+  meant_escaped (high ∷ low ∷ rest) =
+      and_then (hex_byte high low) (λ b. option_map (λ bs. b ∷ bs) (meant rest))
 
 -- a number where it is not above a limit
 abbrev pub at_most : ℕ → Option ℕ → Option ℕ
