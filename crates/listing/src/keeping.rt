@@ -1,5 +1,5 @@
-// The schedules of files put into both stores.
-ghost use Rattle.std.specs.Prelude.{◌≡◌, true, min, [], length};
+//! The schedules of files put into both stores.
+ghost use Rattle.std.specs.Prelude.{◌≡◌, min, [], length, IsTrue};
 ghost use Rattle.schedule.specs.Records.{is_schedule};
 
 use crate::drafts::{Asked, Draft};
@@ -15,9 +15,9 @@ use stores::{Bag, Table};
 use timetable::{Store, Timetable};
 use wording::changes::{KeyWords, RecordWords};
 
-// The record of a cancellation that hides nothing, for slots that hold nothing yet.
+/// The record of a cancellation that hides nothing, for slots that hold nothing yet.
 pub fn empty_record() -> Record
-    ensures { is_schedule result ≡ true }
+    ensures { IsTrue (is_schedule result) }
 {
     let blank = Record::from(Schedule::blank());
     let key = Key {
@@ -32,6 +32,7 @@ fn agreed(table: bool, bag: bool) -> Option<bool> {
     if table == bag { Some(table) } else { None }
 }
 
+// The words for what both stores answered, or that they differ.
 fn told(agreed: Option<bool>, good: &'static str, bad: &'static str) -> &'static str {
     match agreed {
         Some(true) => good,
@@ -40,7 +41,7 @@ fn told(agreed: Option<bool>, good: &'static str, bad: &'static str) -> &'static
     }
 }
 
-// A table and a bag, which are asked the same.
+/// A table and a bag, which are asked the same.
 #[derive(Drop)]
 pub struct Both<'a> {
     table: Table<'a>,
@@ -50,7 +51,7 @@ pub struct Both<'a> {
 impl<'a> Both<'a> {
     ghost use Rattle.listing.specs.Keeping.{table_records, bag_records, table_capacity, bag_capacity, CapacitiesKept};
 
-    // Two empty stores, each over its slots.
+    /// Two empty stores, each over its slots, whatever they hold.
     pub fn new(table: &'a mut [Record], bag: &'a mut [Record]) -> Both<'a>
         ensures no_schedule_in_table { table_records result ≡ [] }
         ensures no_schedule_in_bag { bag_records result ≡ [] }
@@ -63,6 +64,7 @@ impl<'a> Both<'a> {
         }
     }
 
+    // Puts a schedule into both stores.
     fn put(&mut self, schedule: Schedule) -> Option<bool>
         ensures { CapacitiesKept self.old self.new }
     {
@@ -71,6 +73,7 @@ impl<'a> Both<'a> {
         agreed(table, bag)
     }
 
+    // Takes a key out of both stores.
     fn remove(&mut self, key: Key) -> Option<bool>
         ensures { CapacitiesKept self.old self.new }
     {
@@ -79,6 +82,7 @@ impl<'a> Both<'a> {
         agreed(table, bag)
     }
 
+    // Does what is asked to both stores, and prints what came of it.
     fn do_asked(&mut self, rt: &HostRuntime, asked: Asked) -> anyhow::Result<()>
         ensures { CapacitiesKept self.old self.new }
     {
@@ -101,7 +105,7 @@ impl<'a> Both<'a> {
         Ok(())
     }
 
-    // Does what the rows of a file ask. Both capacities stay.
+    /// Does what the rows of a file ask to both stores. Both capacities stay.
     pub fn take_file(&mut self, rt: &HostRuntime, name: &str) -> anyhow::Result<()>
         ensures { CapacitiesKept self.old self.new }
     {
@@ -139,7 +143,7 @@ impl<'a> Both<'a> {
         Ok(same)
     }
 
-    // Lists both stores, which stay as they were.
+    /// Lists both stores, which stay as they were.
     pub fn print_stores(&mut self, rt: &HostRuntime) -> anyhow::Result<()>
         ensures { self.new ≡ self.old }
     {
