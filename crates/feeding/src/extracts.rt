@@ -25,7 +25,8 @@ use wording::words::{Text, stage_name};
 /// Hands a row, any bytes, to the controller: one that begins with HD to open, any other to row.
 /// What is refused, and with what, is in docs/refusals.md; then nothing changes.
 pub fn hand<S: Store>(controller: &mut Controller<S>, row: &[u8]) -> Result<(), ExtractFault>
-    ensures told { fault_of result ≡ refusal_of (handed row.now) (standing_in S.meaning controller.old) 0 }
+    ensures told { fault_of result
+        ≡ refusal_of (handed row.now) (standing_in S.meaning controller.old) 0 }
     ensures unchanged { OnErr result (controller.new ≡ controller.old) }
     ensures store { store_of controller.new ≡ store_of controller.old }
 {

@@ -52,11 +52,9 @@ impl<'a> Rows<'a> {
 impl<'a> Iterator for Rows<'a> {
     type Item = &'a [u8];
 
-    ghost next_gives = {
-        λ s r t. MatchOption r ((length s.rest.now ≡ 0) × (t ≡ s))
-            (λ row. (0 < length s.rest.now) × (row.now ≡ first_row s.rest.now)
-                × (t.rest.now ≡ other_rows s.rest.now))
-    };
+    ghost next_gives = { λ s r t. MatchOption r ((length s.rest.now ≡ 0) × (t ≡ s))
+        (λ row. (0 < length s.rest.now) × (row.now ≡ first_row s.rest.now)
+        × (t.rest.now ≡ other_rows s.rest.now)) };
 
     ghost remaining = { λ s. at_most (length s.rest.now) };
 

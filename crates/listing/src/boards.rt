@@ -36,9 +36,7 @@ pub fn empty_line() -> Line
 /// Line slots for a board of a store: twice as many as it can hold schedules. The store stays as it
 /// was.
 pub fn line_slots<S: Store>(rt: &HostRuntime, store: &mut S) -> Result<Vec<Line>, AllocError>
-    ensures slots {
-        IfOk result (λ slots. length slots.items ≡ 2 * (S.meaning store.old).capacity)
-    }
+    ensures slots { IfOk result (λ slots. length slots.items ≡ 2 * (S.meaning store.old).capacity) }
     ensures same { store.new ≡ store.old }
 {
     vec![in rt.alloc(); empty_line(); 2 * store.capacity()]

@@ -70,9 +70,8 @@ impl Tally {
     // Counts a row by what came of it.
     fn note(&mut self, outcome: &Result<Content, RowFault>)
         ensures read { OnOk outcome.now (self.new ≡ with_done self.old) }
-        ensures refused {
-            IfErr outcome.now (λ fault. self.new ≡ with_refused self.old fault.fault.refusal)
-        }
+        ensures refused { IfErr outcome.now
+            (λ fault. self.new ≡ with_refused self.old fault.fault.refusal) }
     {
         match outcome {
             Ok(_) => self.note_done(),
@@ -83,10 +82,8 @@ impl Tally {
     /// Counts a call by its answer.
     pub fn note_answer(&mut self, answer: &Answer)
         ensures done { IfNone (refusal_told answer.now) (self.new ≡ with_done self.old) }
-        ensures refused {
-            IfSome (refusal_told answer.now)
-                (λ refusal. self.new ≡ with_refused self.old refusal)
-        }
+        ensures refused { IfSome (refusal_told answer.now)
+            (λ refusal. self.new ≡ with_refused self.old refusal) }
     {
         match answer {
             Answer::Refused(fault) => self.note_refused(fault.fault.fault.refusal),
@@ -96,14 +93,10 @@ impl Tally {
 
     /// Adds the counts of another tally.
     pub fn add(&mut self, other: &Tally)
-        ensures done {
-            done_count self.new ≡ counted (done_count self.old + done_count other.now)
-        }
-        ensures refused {
-            (number : ℕ) → number < 16
+        ensures done { done_count self.new ≡ counted (done_count self.old + done_count other.now) }
+        ensures refused { (number : ℕ) → number < 16
             → refused_count self.new number
-                ≡ counted (refused_count self.old number + refused_count other.now number)
-        }
+            ≡ counted (refused_count self.old number + refused_count other.now number) }
     {
         self.done = self.done.saturating_add(other.done);
         for (k, count) in self.refused.iter_mut().enumerate() {

@@ -29,9 +29,7 @@ pub fn record(uid: u32, from: u16, stp: Stp, to: u16) -> Record
 /// A permanent schedule of a train, by its UID number, that runs on one day, a day number. There is
 /// none where the UID number is 2,600,000 or more, or the day above 36,524.
 pub fn one_day(uid: u32, day: u16) -> Option<Schedule>
-    ensures schedule {
-        IfSome result (λ schedule. record_of schedule ≡ permanent_sample uid day day)
-    }
+    ensures schedule { IfSome result (λ s. record_of s ≡ permanent_sample uid day day) }
     ensures none { IfNone result (IsFalse (is_schedule (permanent_sample uid day day))) }
 {
     Schedule::try_from(record(uid, day, Stp::Permanent, day)).ok()
@@ -41,9 +39,7 @@ pub fn one_day(uid: u32, day: u16) -> Option<Schedule>
 /// the day `to`, both day numbers. There is none where the UID number is 2,600,000 or more, `to`
 /// above 36,524 or before `from`.
 pub fn permanent(uid: u32, from: u16, to: u16) -> Option<Schedule>
-    ensures schedule {
-        IfSome result (λ schedule. record_of schedule ≡ permanent_sample uid from to)
-    }
+    ensures schedule { IfSome result (λ s. record_of s ≡ permanent_sample uid from to) }
     ensures none { IfNone result (IsFalse (in_range (permanent_sample uid from to))) }
 {
     let stp = Stp::Permanent;

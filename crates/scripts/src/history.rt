@@ -33,15 +33,11 @@ impl History {
 
     // Adds a call, to those of the bag's controller where it has its own.
     pub(crate) fn push(&mut self, step: Step) -> Result<(), AllocError>
-        ensures calls {
-            OnOk result (IfNone self.old.other
-                (self.new.calls.items ≡ self.old.calls.items ++ step ∷ []))
-        }
+        ensures calls { OnOk result (IfNone self.old.other
+            (self.new.calls.items ≡ self.old.calls.items ++ step ∷ [])) }
         ensures left { OnOk result (OnSome self.old.other (self.new.calls ≡ self.old.calls)) }
-        ensures other {
-            OnOk result (option_map (λ more. more.items) self.new.other
-                ≡ option_map (λ other. other.items ++ step ∷ []) self.old.other)
-        }
+        ensures other { OnOk result (option_map (λ more. more.items) self.new.other
+            ≡ option_map (λ other. other.items ++ step ∷ []) self.old.other) }
         ensures told { OnOk result (told self.new ≡ with_call (call_of step) (told self.old)) }
         ensures capacity { self.new.capacity ≡ self.old.capacity }
         ensures slots { self.new.slots ≡ self.old.slots }

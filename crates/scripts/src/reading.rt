@@ -52,10 +52,8 @@ fn turn_in(alloc: Global, rest: &[u8]) -> Result<Option<Step>, AllocError>
 
 // The call that a word and what follows it ask for, if they ask for one.
 fn step_in(alloc: Global, word: &str, rest: Option<&[u8]>) -> Result<Option<Step>, AllocError>
-    ensures {
-        IfOk result (λ step. option_map call_of step
-            ≡ call_in word.now (option_map (λ text. text.now) rest.entry))
-    }
+    ensures { IfOk result (λ step. option_map call_of step
+        ≡ call_in word.now (option_map (λ text. text.now) rest.entry)) }
 {
     let step = match (word, rest) {
         ("open", _) => meant(alloc, rest.unwrap_or(&[]))?.map(Step::Open),
@@ -93,18 +91,13 @@ fn said_in(alloc: Global, line: &[u8]) -> Result<Option<Said>, AllocError>
 
 // Adds what a line says to the histories before it, and says whether it may stand there.
 fn take(alloc: Global, histories: &mut Vec<History>, said: Said) -> Result<bool, AllocError>
-    ensures taken {
-        IfOk result (λ taken. OnTrue taken
-            (after (map told histories.old.items) (says_of said)
-                ≡ Some (map told histories.new.items)))
-    }
-    ensures refused {
-        IfOk result (λ taken. OnFalse taken
-            (after (map told histories.old.items) (says_of said) ≡ None))
-    }
-    ensures unchanged {
-        IfOk result (λ taken. OnFalse taken (histories.new.items ≡ histories.old.items))
-    }
+    ensures taken { IfOk result (λ taken. OnTrue taken
+        (after (map told histories.old.items) (says_of said)
+        ≡ Some (map told histories.new.items))) }
+    ensures refused { IfOk result (λ taken. OnFalse taken
+        (after (map told histories.old.items) (says_of said) ≡ None)) }
+    ensures unchanged { IfOk result
+        (λ taken. OnFalse taken (histories.new.items ≡ histories.old.items)) }
 {
     match said {
         Said::Nothing => {}
@@ -147,12 +140,10 @@ impl From<AllocError> for Unread {
 /// The histories of a script, any bytes. The first line that is none of a script, or stands where
 /// it may not, is told by its number.
 pub fn histories_in(alloc: Global, script: &[u8]) -> Result<Vec<History>, Unread>
-    ensures histories {
-        IfOk result (λ histories. histories_of script.now ≡ Ok (map told histories.items))
-    }
-    ensures unread {
-        (number : ℕ) → result ≡ Err (Line number) → histories_of script.now ≡ Err number
-    }
+    ensures histories { IfOk result
+        (λ histories. histories_of script.now ≡ Ok (map told histories.items)) }
+    ensures unread { (number : ℕ) → result ≡ Err (Line number)
+        → histories_of script.now ≡ Err number }
 {
     let mut histories = Vec::new(alloc);
     for (place, line) in Rows::new(script).enumerate() {

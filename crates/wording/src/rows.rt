@@ -134,9 +134,7 @@ impl Display for ScheduleWords<'_> {
 
 // How a train runs, behind its first day.
 fn write_running<W: fmt::Write>(f: &mut Formatter<W>, running: &Running) -> fmt::Result
-    ensures {
-        DisplaysOnOk W.write_str_gives f.old result (Some (running_text running.now)) f.new
-    }
+    ensures { DisplaysOnOk W.write_str_gives f.old result (Some (running_text running.now)) f.new }
 {
     let to = Day(running.to);
     let days = DaysRun(&running.days);
@@ -146,10 +144,8 @@ fn write_running<W: fmt::Write>(f: &mut Formatter<W>, running: &Running) -> fmt:
 
 // A time after a comma, where there is one to tell.
 fn write_time<W: fmt::Write>(f: &mut Formatter<W>, told: bool, time: Time) -> fmt::Result
-    ensures {
-        DisplaysOnOk W.write_str_gives f.old result
-            (Some (told_text told (time_text time.0.now time.1.now time.2))) f.new
-    }
+    ensures { DisplaysOnOk W.write_str_gives f.old result
+        (Some (told_text told (time_text time.0.now time.1.now time.2))) f.new }
 {
     if told {
         write!(f, ", {time}")?;
@@ -165,10 +161,8 @@ fn write_location<W: fmt::Write>(
     arrives: bool,
     departs: bool,
 ) -> fmt::Result
-    ensures {
-        DisplaysOnOk W.write_str_gives f.old result
-            (Some (location_text role.now at.now arrives departs)) f.new
-    }
+    ensures { DisplaysOnOk W.write_str_gives f.old result
+        (Some (location_text role.now at.now arrives departs)) f.new }
 {
     let tiploc = Text(&at.tiploc);
     let suffix = at.suffix as char;
