@@ -1,4 +1,4 @@
-//! Files of rows.
+// Files of rows.
 #![tactic(auto)]
 
 ghost use Rattle.std.specs.Prelude.{◌≡◌, ◌+◌, ◌<◌, ◌≤◌, length, take, drop, MatchOption};
@@ -17,8 +17,7 @@ fn row_length(bytes: &[u8]) -> usize
         .unwrap_or(bytes.len())
 }
 
-/// The first row of a file, without its line feed, and the rest of the file. Both are empty where
-/// the file is.
+// The first row of a file, without its line feed, and the rest of the file.
 pub fn split_row(bytes: &[u8]) -> (&[u8], &[u8])
     ensures row { result.0.now ≡ first_row bytes.now }
     ensures rest { result.1.now ≡ other_rows bytes.now }
@@ -32,15 +31,13 @@ pub fn split_row(bytes: &[u8]) -> (&[u8], &[u8])
     }
 }
 
-/// The rows of a file from its first on, each without its line feed; a last row without a line feed
-/// counts too.
+// The rows of a file from its first on, each without its line feed.
 #[derive(Clone, Drop)]
 pub struct Rows<'a> {
     rest: &'a [u8],
 }
 
 impl<'a> Rows<'a> {
-    /// The rows of a file, any bytes.
     pub fn new(bytes: &'a [u8]) -> Rows<'a>
         ensures { result.rest.now ≡ bytes.now }
     {
@@ -52,9 +49,7 @@ impl<'a> Rows<'a> {
 impl<'a> Iterator for Rows<'a> {
     type Item = &'a [u8];
 
-    ghost next_gives = { λ s r t. MatchOption r ((length s.rest.now ≡ 0) × (t ≡ s))
-        (λ row. (0 < length s.rest.now) × (row.now ≡ first_row s.rest.now)
-        × (t.rest.now ≡ other_rows s.rest.now)) };
+    ghost next_gives = { λ s r t. MatchOption r ((length s.rest.now ≡ 0) × (t ≡ s)) (λ row. (0 < length s.rest.now) × (row.now ≡ first_row s.rest.now) × (t.rest.now ≡ other_rows s.rest.now)) };
 
     ghost remaining = { λ s. at_most (length s.rest.now) };
 
