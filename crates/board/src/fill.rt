@@ -48,15 +48,11 @@ fn line_at(plain: &Record, place: u8, station: &[u8; 7]) -> Option<Line>
 
 // Adds the line of the call at a place, if it has one.
 fn add_call(lines: &mut Slots<'_, Line>, plain: &Record, place: u8, station: &[u8; 7])
-    requires room {
-        calls_there station.now (slice_get plain.now.calls place) ≡ true
-        → length (items lines.old) < room lines.old
-    }
-    ensures added {
-        (xs : List Line) → Added station.now plain.now place xs (items lines.old)
+    requires room { calls_there station.now (slice_get plain.now.calls place) ≡ true
+        → length (items lines.old) < room lines.old }
+    ensures added { (xs : List Line) → Added station.now plain.now place xs (items lines.old)
         → Fresh xs plain.now.key.uid
-        → Added station.now plain.now (place + 1) xs (items lines.new)
-    }
+        → Added station.now plain.now (place + 1) xs (items lines.new) }
     ensures grown { Grown lines.old lines.new }
     ensures room { room lines.new ≡ room lines.old }
 {
@@ -68,13 +64,11 @@ fn add_call(lines: &mut Slots<'_, Line>, plain: &Record, place: u8, station: &[u
 // Adds the lines of a schedule's calls at a station.
 pub(crate) fn add_calls(lines: &mut Slots<'_, Line>, plain: &Record, station: &[u8; 7])
     requires count { plain.now.count ≤ 48 }
-    requires room {
-        length (items lines.old) + visits station.now (kept_calls plain.now) ≤ room lines.old
-    }
+    requires room { length (items lines.old) + visits station.now (kept_calls plain.now)
+        ≤ room lines.old }
     requires fresh { Fresh (items lines.old) plain.now.key.uid }
-    ensures added {
-        Added station.now plain.now plain.now.count (items lines.old) (items lines.new)
-    }
+    ensures added { Added station.now plain.now plain.now.count (items lines.old)
+        (items lines.new) }
     ensures grown { Grown lines.old lines.new }
     ensures room { room lines.new ≡ room lines.old }
 {
@@ -95,10 +89,9 @@ fn add_train<T: Timetable>(
     requires room { length (items lines.old) + 2 ≤ room lines.old }
     requires fresh { Fresh (items lines.old) first.uid }
     requires first { IsFirst (T.meaning timetable.old).map first }
-    ensures trained {
-        Trained (T.meaning timetable.old).map shown.now.station shown.now.day first.uid
-            (items lines.old) (items lines.new)
-    }
+    ensures trained { Trained
+        (T.meaning timetable.old).map shown.now.station shown.now.day first.uid
+        (items lines.old) (items lines.new) }
     ensures next { result ≡ not_before (T.meaning timetable.old).map (first_of (first.uid + 1)) }
     ensures grown { Grown lines.old lines.new }
     ensures room { room lines.new ≡ room lines.old }
@@ -118,9 +111,8 @@ fn add_train<T: Timetable>(
 // Gathers the lines of a station and day in any order, train by train.
 fn gather_lines<T: Timetable>(timetable: &mut T, lines: &mut Slots<'_, Line>, shown: &StationDay)
     requires room { 2 * length (T.meaning timetable.old).map ≤ room lines.old }
-    ensures lines {
-        AllLines (T.meaning timetable.old).map shown.now.station shown.now.day (items lines.new)
-    }
+    ensures lines { AllLines (T.meaning timetable.old).map shown.now.station shown.now.day
+        (items lines.new) }
     ensures few { length (items lines.new) ≤ 2 * length (T.meaning timetable.old).map }
     ensures rest { RestKept lines.old lines.new }
     ensures room { room lines.new ≡ room lines.old }
@@ -141,9 +133,8 @@ pub(crate) fn set_lines<T: Timetable>(
     shown: &StationDay,
 )
     requires room { 2 * length (T.meaning timetable.old).map ≤ room lines.old.inner }
-    ensures board {
-        BoardOf (T.meaning timetable.old).map shown.now.station shown.now.day (items lines.new.inner)
-    }
+    ensures board { BoardOf (T.meaning timetable.old).map shown.now.station shown.now.day
+        (items lines.new.inner) }
     ensures few { length (items lines.new.inner) ≤ 2 * length (T.meaning timetable.old).map }
     ensures rest { RestKept lines.old.inner lines.new.inner }
     ensures room { room lines.new.inner ≡ room lines.old.inner }

@@ -14,10 +14,8 @@ use timetable::{Store, Timetable};
 impl Board<'_> {
     /// Whether there are line slots enough for a store: twice as many as its capacity. Otherwise it is refused with 15.
     pub fn suits<S: Store>(&mut self, store: &mut S) -> Result<(), ColumnFault>
-        ensures told {
-            fault_of result
-            ≡ uppermost (slot_lines (slots_of self.old) (S.meaning store.old).capacity)
-        }
+        ensures told { fault_of result
+            ≡ uppermost (slot_lines (slots_of self.old) (S.meaning store.old).capacity) }
         ensures enough { OnOk result (2 * length (S.meaning store.old).map ≤ slots_of self.old) }
         ensures same { self.new ≡ self.old }
         ensures store { store.new ≡ store.old }
@@ -31,13 +29,10 @@ impl Board<'_> {
     /// Sets the lines to those that the store's map gives for the board's station and day. Without a station there are none.
     /// A board with too few line slots is refused with 15.
     pub fn follow<S: Store>(&mut self, store: &mut S) -> Result<(), ColumnFault>
-        ensures told {
-            fault_of result
-            ≡ uppermost (slot_lines (slots_of self.old) (S.meaning store.old).capacity)
-        }
-        ensures lines {
-            OnOk result (LinesFor (S.meaning store.old).map (shown_of self.old) (lines_of self.new))
-        }
+        ensures told { fault_of result
+            ≡ uppermost (slot_lines (slots_of self.old) (S.meaning store.old).capacity) }
+        ensures lines { OnOk result
+            (LinesFor (S.meaning store.old).map (shown_of self.old) (lines_of self.new)) }
         ensures shown { shown_of self.new ≡ shown_of self.old }
         ensures slots { SlotsKept self.old self.new }
         ensures unchanged { OnErr result (self.new ≡ self.old) }

@@ -63,19 +63,15 @@ impl Board<'_> {
         station: &[u8],
         day: u32,
     ) -> Result<(), ColumnFault>
-        ensures told {
-            fault_of result
-            ≡ uppermost (turn_lines station.now day (slots_of self.old) (S.meaning store.old).capacity)
-        }
-        ensures board {
-            OnOk result (BoardOf (S.meaning store.old).map station.now day (lines_of self.new))
-        }
-        ensures few {
-            OnOk result (length (lines_of self.new) ≤ 2 * length (S.meaning store.old).map)
-        }
-        ensures set {
-            OnOk result (shown_of self.new ≡ Some (record { station = station.now; day = day }))
-        }
+        ensures told { fault_of result
+            ≡ uppermost
+            (turn_lines station.now day (slots_of self.old) (S.meaning store.old).capacity) }
+        ensures board { OnOk result
+            (BoardOf (S.meaning store.old).map station.now day (lines_of self.new)) }
+        ensures few { OnOk result
+            (length (lines_of self.new) ≤ 2 * length (S.meaning store.old).map) }
+        ensures set { OnOk result
+            (shown_of self.new ≡ Some (record { station = station.now; day = day })) }
         ensures slots { SlotsKept self.old self.new }
         ensures unchanged { OnErr result (self.new ≡ self.old) }
         ensures same { store.new ≡ store.old }

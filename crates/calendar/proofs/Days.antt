@@ -3,7 +3,7 @@ use Rattle.std.proofs.Common.{◌≡◌, ℕ, ◌+◌, ◌*◌, ◌/◌, ◌%◌
 use Rattle.std.proofs.lemmas.Bool.{and_parts, leb-true, ltb-true, ltb-false, cond_both}
 use Rattle.std.proofs.lemmas.Bool.Decides.{nat_tests}
 use Rattle.calendar.specs.Calendar.{is_leap_year, days_in, exists, month_start, day_number, weekday}
-use Rattle.calendar.specs.Laws.{Date, Real, number_of, tomorrow, NumbersTheDays, TellsDatesApart}
+use Rattle.calendar.specs.Laws.{Date, IsDate, number_of, tomorrow, NumbersTheDays, TellsDatesApart}
 
 -- in these years the calendar's rule is the short one
 same_leap : (k : ℕ) → k < 100 → is_leap_year (1960 + k) ≡ eqb (k % 4) 0
@@ -64,7 +64,7 @@ module _ (x : Date) (p : Parts x.year x.month x.day) where
       let h = p.last_day in
       omega (arith, e, ltb-false x.day (days_in (is_leap_year (1960 + x.year)) x.month) full)
 
-next_number : (x : Date) → Real x → number_of (tomorrow x) ≡ number_of x + 1
+next_number : (x : Date) → IsDate x → number_of (tomorrow x) ≡ number_of x + 1
 next_number x there =
     let p = parts x.year x.month x.day there in
     cond_both (ltb x.day (days_in (is_leap_year (1960 + x.year)) x.month)) _ _ (λ (y : Date). number_of y ≡ number_of x + 1) (λ _. in_month x p)

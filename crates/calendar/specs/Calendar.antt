@@ -1,5 +1,5 @@
 -- The Gregorian calendar from 1960 to 2059, and the numbers of its days.
-use Rattle.std.specs.Prelude.{ℕ, ◌+◌, ◌-◌, ◌*◌, ◌/◌, ◌%◌, Bool, cond, not, ◌&&◌, ◌||◌, Some, None, Option, ◌==◌, nat_le, nat_lt}
+use Rattle.std.specs.Prelude.{ℕ, ◌+◌, ◌-◌, ◌*◌, ◌/◌, ◌%◌, Bool, if◌then◌else◌, not, ◌&&◌, ◌||◌, Some, None, Option, ◌==◌, nat_le, nat_lt}
 
 -- the calendar's rule for leap years: each fourth year, of the centuries each fourth
 abbrev pub is_leap_year : ℕ → Bool
@@ -7,7 +7,8 @@ is_leap_year y = y % 4 == 0 && (not (y % 100 == 0) || y % 400 == 0)
 
 -- the days of a month: 30 in April, June, September and November, 28 or 29 in February, else 31
 abbrev pub days_in : Bool → ℕ → ℕ
-days_in leap m = cond (m == 2) (cond leap 29 28) (cond (m == 4 || (m == 6 || (m == 9 || m == 11))) 30 31)
+days_in leap m =
+    if m == 2 then (if leap then 29 else 28) else (if m == 4 || (m == 6 || (m == 9 || m == 11)) then 30 else 31)
 
 -- the calendar has a day d in month m of the year 1960 + k, one of the hundred years that are numbered
 abbrev pub exists : ℕ → ℕ → ℕ → Bool
@@ -15,7 +16,7 @@ exists k m d = nat_lt k 100 && (nat_le 1 m && (nat_le m 12 && (nat_le 1 d && nat
 
 -- the days of the year before month m
 abbrev pub month_start : ℕ → ℕ → ℕ
-month_start k m = (367 * m - 362) / 12 - cond (nat_le m 2) 0 (cond (k % 4 == 0) 1 2)
+month_start k m = (367 * m - 362) / 12 - (if nat_le m 2 then 0 else (if k % 4 == 0 then 1 else 2))
 
 -- the number of the day d in month m of the year 1960 + k
 abbrev pub day_number : ℕ → ℕ → ℕ → ℕ
@@ -27,4 +28,4 @@ weekday n = (n + 4) % 7
 
 -- a date is told as its day number and weekday together, where the calendar has it
 abbrev pub dated : ℕ → ℕ → ℕ → Option (ℕ × ℕ)
-dated k m d = cond (exists k m d) (Some (day_number k m d, weekday (day_number k m d))) None
+dated k m d = if exists k m d then Some (day_number k m d, weekday (day_number k m d)) else None

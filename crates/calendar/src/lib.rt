@@ -1,11 +1,11 @@
-// Dates of the Gregorian calendar from 1960 to 2059, told as day number and weekday.
+//! Dates of the Gregorian calendar from 1960 to 2059, told as day number and weekday. docs/days.md has the rules.
 #![tactic(auto)]
 
-ghost use Rattle.std.specs.Prelude.{◌≡◌, ℕ, ◌+◌, ◌-◌, ◌*◌, ◌/◌, ◌%◌, ◌<◌, ◌≤◌, ◌==◌};
+ghost use Rattle.std.specs.Prelude.{◌≡◌, ◌≤◌, ◌<◌, ◌%◌, ◌==◌};
 ghost use Rattle.calendar.specs.Calendar.{days_in, month_start, day_number, dated};
 ghost use Rattle.calendar.specs.Laws.{NumbersTheDays, StaysInRange, TellsDatesApart};
 
-// The highest day number: 31 December 2059.
+/// The highest day number: that of 31 December 2059, where 1 January 1960 has 0.
 pub const LAST_DAY: u16 = 36_524;
 
 // Every fourth year is a leap year: the years from 1960 to 2059 have no other exception than 2000, which is one.
@@ -15,6 +15,7 @@ fn is_leap(years: u32) -> bool
     years % 4 == 0
 }
 
+// The days of a month.
 fn days_in(leap: bool, month: u32) -> u32
     ensures { result ≡ days_in leap month }
 {
@@ -27,7 +28,8 @@ fn days_in(leap: bool, month: u32) -> u32
 
 // The days of the year before a month.
 fn month_start(years: u32, month: u32) -> u32
-    requires { (1 ≤ month) × (month ≤ 12) }
+    requires first { 1 ≤ month }
+    requires last { month ≤ 12 }
     ensures start { result ≡ month_start years month }
     ensures small { result ≤ 336 }
 {
@@ -41,15 +43,21 @@ fn month_start(years: u32, month: u32) -> u32
     }
 }
 
+// The day number of a date, given by the years since 1960, month and day of the month.
 fn day_number(years: u32, month: u32, day: u32) -> u32
-    requires { (years < 100) × ((1 ≤ month) × ((month ≤ 12) × ((1 ≤ day) × (day ≤ 31)))) }
+    requires years { years < 100 }
+    requires first_month { 1 ≤ month }
+    requires last_month { month ≤ 12 }
+    requires first_day { 1 ≤ day }
+    requires last_day { day ≤ 31 }
     ensures number { result ≡ day_number years month day }
     ensures small { result < 65536 }
 {
     365 * years + (years + 3) / 4 + month_start(years, month) + day - 1
 }
 
-// The day number and weekday of a date, given by the years since 1960, month and day of the month.
+/// The day number and the weekday (Monday is 0) of a date, given by the years since 1960, month and day of the month. There is
+/// none where the calendar has no such date, or its year is not from 1960 to 2059.
 pub fn date(years: u32, month: u32, day: u32) -> Option<(u16, u8)>
     ensures { result ≡ dated years month day }
 {
@@ -60,23 +68,18 @@ pub fn date(years: u32, month: u32, day: u32) -> Option<(u16, u8)>
     Some((number as u16, ((number + 4) % 7) as u8))
 }
 
-// The numbering begins with 1 January 1960, and the next date has the next number and weekday.
-pub fn numbers_the_days() -> u8
+/// The numbering begins with 1 January 1960, and the next date has the next number and weekday.
+pub fn numbers_the_days()
     ensures { NumbersTheDays }
-{
-    0
-}
+{}
 
-// No date has a number above the last day's.
-pub fn stays_in_range() -> u16
-    ensures { (result ≡ 36524) × (StaysInRange) }
-{
-    LAST_DAY
-}
+/// The last day is 31 December 2059, and no date has a higher number.
+pub fn stays_in_range()
+    ensures last { day_number 99 12 31 ≡ LAST_DAY }
+    ensures range { StaysInRange LAST_DAY }
+{}
 
-// Two dates with one number are one date.
-pub fn tells_dates_apart() -> u8
+/// Two dates with one number are one date.
+pub fn tells_dates_apart()
     ensures { TellsDatesApart }
-{
-    0
-}
+{}

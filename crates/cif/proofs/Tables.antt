@@ -12,12 +12,12 @@ use Rattle.cif.specs.declared.identity.Identity.{Identity}
 use Rattle.cif.specs.declared.identity.Identity.TheVariants.{Header, BasicSchedule, BasicExtra, Origin, Intermediate, Terminus, ChangeEnRoute, LocationInsert, LocationAmend, LocationDelete, Association, Trailer}
 use Rattle.cif.specs.declared.content.BasicSchedule.{BasicSchedule as Schedule}
 use Rattle.cif.specs.declared.content.Running.{Running}
-use Rattle.cif.specs.Refusals.{number_of, fault_at, in_row, TableLine, line, uppermost, missing, lacks, formed, then, raised, fault_of}
+use Rattle.cif.specs.Refusals.{number_of, fault_at, in_row, TableLine, line, uppermost, missing, form_line, formed, then, raised, fault_of}
 use Rattle.cif.specs.Rows.{identity_in, first_bad, column_or0}
 use Rattle.cif.specs.declared.content.Header.{Header as HeaderFields}
 use Rattle.cif.specs.declared.content.Location.{Location}
-use Rattle.cif.specs.Fields.{current_reference, last_reference, coverage_of, tiploc_of, suffix_of, time_at, platform_at, header_in, header_lines, transaction_of, uid_of, from_of, to_of, days_of, train_of, stp_of, reads_all, ends_before, only_if, change_in, runs_on, schedule_in, schedule_lines, operator_in, operator_lines, operator_of, origin_in, end_lines, intermediate_in, intermediate_lines, terminus_in}
-use Rattle.cif.specs.Reading.{letters_in, blanks, content_in, read_in, field_lines, field_lines_in, told_in, by_table}
+use Rattle.cif.specs.Fields.{current_reference, last_reference, coverage_of, tiploc_of, suffix_of, time_at, platform_at, header_in, header_lines, transaction_of, uid_of, from_of, to_of, days_of, train_of, stp_of, reads_all, ends_before, line_under, change_in, runs_on, schedule_in, schedule_lines, operator_in, operator_lines, operator_of, origin_in, end_lines, intermediate_in, intermediate_lines, terminus_in}
+use Rattle.cif.specs.Reading.{letters_in, blanks, content_in, read_in, field_lines, field_lines_in, told_in, fault_by_table}
 
 abbrev headed : List ℕ → List ℕ → Coverage → HeaderFields
 headed c l k = record { current = c; last = l; coverage = k }
@@ -28,7 +28,7 @@ located t s a d p = record { tiploc = t; suffix = s; arrival = a; departure = d;
 -- fields that are read one after another are told in that order
 module _ {A B C Y : Type 0} where
   three_told : (a : Option A) (b : Option B) (c : Option C) (p q r : ℕ) (k : A → B → C → Y)
-      → fault_of (then (formed p a) (λ x. then (formed q b) (λ y. then (formed r c) (λ z. Ok (k x y z))))) ≡ uppermost (lacks p a ∷ lacks q b ∷ lacks r c ∷ [])
+      → fault_of (then (formed p a) (λ x. then (formed q b) (λ y. then (formed r c) (λ z. Ok (k x y z))))) ≡ uppermost (form_line p a ∷ form_line q b ∷ form_line r c ∷ [])
   three_told None b c p q r k = refl
   three_told (Some x) None c p q r k = refl
   three_told (Some x) (Some y) None p q r k = refl
@@ -37,14 +37,14 @@ module _ {A B C Y : Type 0} where
 module _ {A B C D Y : Type 0} where
   four_told : (a : Option A) (b : Option B) (c : Option C) (d : Option D) (p q r s : ℕ) (k : A → B → C → D → Y)
       → fault_of (then (formed p a) (λ x. then (formed q b) (λ y. then (formed r c) (λ z. then (formed s d) (λ v. Ok (k x y z v))))))
-      ≡ uppermost (lacks p a ∷ lacks q b ∷ lacks r c ∷ lacks s d ∷ [])
+      ≡ uppermost (form_line p a ∷ form_line q b ∷ form_line r c ∷ form_line s d ∷ [])
   four_told None b c d p q r s k = refl
   four_told (Some x) b c d p q r s k = three_told b c d q r s (k x)
 
 module _ {A B C D E Y : Type 0} where
   five_told : (a : Option A) (b : Option B) (c : Option C) (d : Option D) (e : Option E) (p q r s t : ℕ) (k : A → B → C → D → E → Y)
       → fault_of (then (formed p a) (λ x. then (formed q b) (λ y. then (formed r c) (λ z. then (formed s d) (λ v. then (formed t e) (λ w. Ok (k x y z v w)))))))
-      ≡ uppermost (lacks p a ∷ lacks q b ∷ lacks r c ∷ lacks s d ∷ lacks t e ∷ [])
+      ≡ uppermost (form_line p a ∷ form_line q b ∷ form_line r c ∷ form_line s d ∷ form_line t e ∷ [])
   five_told None b c d e p q r s t k = refl
   five_told (Some x) b c d e p q r s t k = four_told b c d e q r s t (k x)
 
@@ -70,7 +70,7 @@ intermediate_told row =
 operator_told : (row : List ℕ) → fault_of (operator_in row) ≡ uppermost (operator_lines row)
 operator_told row = one (operator_of row)
   where
-    one : (o : Option (List ℕ)) → fault_of (formed 12 o) ≡ uppermost (lacks 12 o ∷ [])
+    one : (o : Option (List ℕ)) → fault_of (formed 12 o) ≡ uppermost (form_line 12 o ∷ [])
     one (Some x) = refl
     one None = refl
 
@@ -90,8 +90,8 @@ module _ (ui : Option ℕ) (fr to : Option (ℕ × ℕ)) (da : Option (List Bool
 
   abbrev lines : Option Transaction → List TableLine
   lines tr =
-      lacks 3 tr ∷ lacks 4 ui ∷ lacks 10 fr ∷ only_if (reads_all tr) (lacks 16 to) ∷ only_if (reads_all tr) (lacks 22 da) ∷ only_if (reads_all tr) (lacks 33 tn)
-      ∷ lacks 80 st ∷ only_if (reads_all tr) (line EndsBeforeStart 16 (ends_before fr to)) ∷ []
+      form_line 3 tr ∷ form_line 4 ui ∷ form_line 10 fr ∷ line_under (reads_all tr) (form_line 16 to) ∷ line_under (reads_all tr) (form_line 22 da) ∷ line_under (reads_all tr) (form_line 33 tn)
+      ∷ form_line 80 st ∷ line_under (reads_all tr) (line EndsBeforeStart 16 (ends_before fr to)) ∷ []
 
 nested_told : (tr : Option Transaction) (ui : Option ℕ) (fr to : Option (ℕ × ℕ)) (da : Option (List Bool)) (tn : Option (List ℕ)) (st : Option Stp)
     → fault_of (nested ui fr to da tn st tr) ≡ uppermost (lines ui fr to da tn st tr)
@@ -172,7 +172,7 @@ whole_of long bad id =
 abbrev whole_lines : Bool → Option ℕ → Option Identity → List TableLine
 whole_lines long bad id = line RowLength 0 (not long) ∷ line BadByte (column_or0 bad) (not (missing bad)) ∷ line UnknownIdentity 1 (missing id) ∷ []
 
-pub read_told : (row : List ℕ) → fault_of (read_in row) ≡ by_table row
+pub read_told : (row : List ℕ) → fault_of (read_in row) ≡ fault_by_table row
 read_told row = at (eqb (length row) 80) (first_bad row) (identity_in row)
   where
     at : (long : Bool) (bad : Option ℕ) (id : Option Identity)

@@ -16,7 +16,7 @@ use Rattle.cif.specs.declared.content.Change.{Change}
 use Rattle.cif.specs.declared.content.Change.TheVariants.{New, Revise, Delete}
 use Rattle.cif.specs.declared.content.Running.{Running}
 use Rattle.cif.specs.declared.content.Location.{Location}
-use Rattle.cif.specs.Refusals.{TableLine, line, lacks, fault_at, formed, then}
+use Rattle.cif.specs.Refusals.{TableLine, line, form_line, fault_at, formed, then}
 
 -- HD: the current and the last file reference, full or update
 abbrev pub current_reference : List ℕ → Option (List ℕ)
@@ -30,7 +30,7 @@ coverage_of row = coverage_in (byte_at 47 row)
 
 -- the lines of an HD row's fields
 abbrev pub header_lines : List ℕ → List TableLine
-header_lines row = lacks 33 (current_reference row) ∷ lacks 40 (last_reference row) ∷ lacks 47 (coverage_of row) ∷ []
+header_lines row = form_line 33 (current_reference row) ∷ form_line 40 (last_reference row) ∷ form_line 47 (coverage_of row) ∷ []
 
 -- what an HD row holds, or the fault of its leftmost field without its form
 abbrev pub header_in : List ℕ → Result Header ColumnFault
@@ -66,30 +66,28 @@ stp_of row = stp_in (byte_at 80 row)
 abbrev pub reads_all : Option Transaction → Bool
 reads_all (Some AsNew) = true
 reads_all (Some AsRevised) = true
-reads_all (Some AsDeleted) = false
-reads_all None = false
+reads_all _ = false
 
 -- whether it runs from a later day than it runs to
 abbrev pub ends_before : Option (ℕ × ℕ) → Option (ℕ × ℕ) → Bool
 ends_before (Some from) (Some to) = nat_lt to.0 from.0
-ends_before (Some from) None = false
-ends_before None to = false
+ends_before _ _ = false
 
 -- a line that counts only under a condition
-abbrev pub only_if : Bool → TableLine → TableLine
-only_if b l = (l.0, b && l.1)
+abbrev pub line_under : Bool → TableLine → TableLine
+line_under b l = (l.0, b && l.1)
 
 -- the lines of a BS row's fields; in a deletion only columns 3, 4 to 9, 10 to 15 and 80 are read
 abbrev pub schedule_lines : List ℕ → List TableLine
 schedule_lines row =
-    lacks 3 (transaction_of row)
-    ∷ lacks 4 (uid_of row)
-    ∷ lacks 10 (from_of row)
-    ∷ only_if (reads_all (transaction_of row)) (lacks 16 (to_of row))
-    ∷ only_if (reads_all (transaction_of row)) (lacks 22 (days_of row))
-    ∷ only_if (reads_all (transaction_of row)) (lacks 33 (train_of row))
-    ∷ lacks 80 (stp_of row)
-    ∷ only_if (reads_all (transaction_of row)) (line EndsBeforeStart 16 (ends_before (from_of row) (to_of row)))
+    form_line 3 (transaction_of row)
+    ∷ form_line 4 (uid_of row)
+    ∷ form_line 10 (from_of row)
+    ∷ line_under (reads_all (transaction_of row)) (form_line 16 (to_of row))
+    ∷ line_under (reads_all (transaction_of row)) (form_line 22 (days_of row))
+    ∷ line_under (reads_all (transaction_of row)) (form_line 33 (train_of row))
+    ∷ form_line 80 (stp_of row)
+    ∷ line_under (reads_all (transaction_of row)) (line EndsBeforeStart 16 (ends_before (from_of row) (to_of row)))
     ∷ []
 
 -- what columns 16 to 36 hold
@@ -128,7 +126,7 @@ operator_of row = text_in 2 Labels (columns 12 13 row)
 
 -- the line of a BX row's field
 abbrev pub operator_lines : List ℕ → List TableLine
-operator_lines row = lacks 12 (operator_of row) ∷ []
+operator_lines row = form_line 12 (operator_of row) ∷ []
 
 -- what a BX row holds
 abbrev pub operator_in : List ℕ → Result (List ℕ) ColumnFault
@@ -151,12 +149,12 @@ platform_at first row = text_in 3 Labels (columns first (first + 2) row)
 
 -- the lines of an LO or LT row's fields, of which one is a public time
 abbrev pub end_lines : List ℕ → List TableLine
-end_lines row = lacks 3 (tiploc_of row) ∷ lacks 10 (suffix_of row) ∷ lacks 16 (time_at 16 row) ∷ lacks 20 (platform_at 20 row) ∷ []
+end_lines row = form_line 3 (tiploc_of row) ∷ form_line 10 (suffix_of row) ∷ form_line 16 (time_at 16 row) ∷ form_line 20 (platform_at 20 row) ∷ []
 
 -- the lines of an LI row's fields, of which two are
 abbrev pub intermediate_lines : List ℕ → List TableLine
 intermediate_lines row =
-    lacks 3 (tiploc_of row) ∷ lacks 10 (suffix_of row) ∷ lacks 26 (time_at 26 row) ∷ lacks 30 (time_at 30 row) ∷ lacks 34 (platform_at 34 row) ∷ []
+    form_line 3 (tiploc_of row) ∷ form_line 10 (suffix_of row) ∷ form_line 26 (time_at 26 row) ∷ form_line 30 (time_at 30 row) ∷ form_line 34 (platform_at 34 row) ∷ []
 
 -- the origin has a departure only
 abbrev pub origin_in : List ℕ → Result Location ColumnFault

@@ -3,3 +3,5 @@ pub mod Rows
 pub mod Fields
 pub mod Reading
 pub mod Texts
+pub mod Contents
+pub mod WholeRows

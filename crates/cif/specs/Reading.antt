@@ -5,7 +5,7 @@ use Rattle.forms.specs.Bytes.{byte_at}
 use Rattle.cif.specs.declared.refusal.ColumnFault.{ColumnFault}
 use Rattle.cif.specs.declared.refusal.RowFault.{RowFault}
 use Rattle.cif.specs.declared.identity.Identity.{Identity}
-use Rattle.cif.specs.declared.identity.Identity.TheVariants.{Header, BasicSchedule, BasicExtra, Origin, Intermediate, Terminus, ChangeEnRoute, LocationInsert, LocationAmend, LocationDelete, Association, Trailer}
+use Rattle.cif.specs.declared.identity.Identity.TheVariants.{Header, BasicSchedule, BasicExtra, Origin, Intermediate, Terminus}
 use Rattle.cif.specs.declared.content.Content.{Content}
 use Rattle.cif.specs.declared.content.Content.TheVariants.{Header as OfHeader, Schedule as OfSchedule, Operator as OfOperator, Origin as OfOrigin, Intermediate as OfIntermediate, Terminus as OfTerminus, Unread}
 use Rattle.cif.specs.Refusals.{number_of, in_row, TableLine, uppermost, then, raised, fault_of}
@@ -28,12 +28,7 @@ content_in BasicExtra row = then (operator_in row) (λ o. Ok (OfOperator o))
 content_in Origin row = then (origin_in row) (λ l. Ok (OfOrigin l))
 content_in Intermediate row = then (intermediate_in row) (λ l. Ok (OfIntermediate l))
 content_in Terminus row = then (terminus_in row) (λ l. Ok (OfTerminus l))
-content_in ChangeEnRoute row = Ok (Unread ChangeEnRoute)
-content_in LocationInsert row = Ok (Unread LocationInsert)
-content_in LocationAmend row = Ok (Unread LocationAmend)
-content_in LocationDelete row = Ok (Unread LocationDelete)
-content_in Association row = Ok (Unread Association)
-content_in Trailer row = Ok (Unread Trailer)
+content_in other row = Ok (Unread other)
 
 -- what any bytes hold as a row, or the fault
 abbrev pub read_in : List ℕ → Result Content RowFault
@@ -49,12 +44,7 @@ field_lines BasicExtra row = operator_lines row
 field_lines Origin row = end_lines row
 field_lines Intermediate row = intermediate_lines row
 field_lines Terminus row = end_lines row
-field_lines ChangeEnRoute row = []
-field_lines LocationInsert row = []
-field_lines LocationAmend row = []
-field_lines LocationDelete row = []
-field_lines Association row = []
-field_lines Trailer row = []
+field_lines _ row = []
 
 -- the same, and none where the identity is not known
 abbrev pub field_lines_in : Option Identity → List ℕ → List TableLine
@@ -70,8 +60,8 @@ abbrev pub told_in : List ℕ → ColumnFault → RowFault
 told_in row fault = in_row (cond (nat_le (number_of fault.refusal) 3) blanks (letters_in row)) fault
 
 -- the fault that the table gives
-abbrev pub by_table : List ℕ → Option RowFault
-by_table row = option_map (told_in row) (uppermost (reading_lines row))
+abbrev pub fault_by_table : List ℕ → Option RowFault
+fault_by_table row = option_map (told_in row) (uppermost (reading_lines row))
 
 -- a row of each identity is refused by the uppermost line of its fields, and read where none holds
 abbrev pub LeftmostIsTold : Type 0

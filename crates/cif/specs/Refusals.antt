@@ -46,12 +46,12 @@ uppermost (l ∷ ls) = cond l.1 (Some l.0) (uppermost ls)
 
 -- whether there is no value
 abbrev pub missing : {X : Type 0} → Option X → Bool
-missing (Some x) = false
 missing None = true
+missing _ = false
 
 -- the line of a field: it lacks its form
-abbrev pub lacks : {X : Type 0} → ℕ → Option X → TableLine
-lacks column reading = line BadForm column (missing reading)
+abbrev pub form_line : {X : Type 0} → ℕ → Option X → TableLine
+form_line column reading = line BadForm column (missing reading)
 
 -- a field's reading, or the fault that it lacks its form
 abbrev pub formed : {X : Type 0} → ℕ → Option X → Result X ColumnFault

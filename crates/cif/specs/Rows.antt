@@ -1,5 +1,5 @@
 -- A row: 80 printable bytes, of which the first two are one of twelve identities.
-use Rattle.std.specs.Prelude.{◌≡◌, ℕ, ◌+◌, Bool, cond, not, ◌&&◌, List, [], ◌∷◌, length, Some, None, Ok, Err, codes, Option, Result, MatchResult, ◌==◌, nat_le, slice_index}
+use Rattle.std.specs.Prelude.{◌≡◌, ℕ, ◌+◌, Bool, if◌then◌else◌, not, ◌&&◌, List, [], ◌∷◌, length, Some, None, Ok, Err, codes, Option, Result, MatchResult, ◌==◌, nat_le, slice_index}
 use Rattle.forms.specs.Bytes.{byte_at}
 use Rattle.cif.specs.declared.refusal.Refusal.TheVariants.{RowLength, BadByte, UnknownIdentity}
 use Rattle.cif.specs.declared.refusal.ColumnFault.{ColumnFault}
@@ -26,14 +26,15 @@ letters_of Association = codes "AA"
 letters_of Trailer = codes "ZZ"
 
 -- the identity whose letters they are
-abbrev pub named : List Identity → ℕ → ℕ → Option Identity
-named [] a b = None
-named (i ∷ is) a b = cond (a == slice_index (letters_of i) 0 && b == slice_index (letters_of i) 1) (Some i) (named is a b)
+abbrev pub identity_among : List Identity → ℕ → ℕ → Option Identity
+identity_among [] a b = None
+identity_among (i ∷ is) a b =
+    if a == slice_index (letters_of i) 0 && b == slice_index (letters_of i) 1 then Some i else identity_among is a b
 
 -- the identity of two letters, if they are those of one
 abbrev pub identity_of : ℕ → ℕ → Option Identity
 identity_of a b =
-    named (Header ∷ BasicSchedule ∷ BasicExtra ∷ Origin ∷ Intermediate ∷ Terminus ∷ ChangeEnRoute ∷ LocationInsert ∷ LocationAmend ∷ LocationDelete ∷ Association ∷ Trailer ∷ []) a b
+    identity_among (Header ∷ BasicSchedule ∷ BasicExtra ∷ Origin ∷ Intermediate ∷ Terminus ∷ ChangeEnRoute ∷ LocationInsert ∷ LocationAmend ∷ LocationDelete ∷ Association ∷ Trailer ∷ []) a b
 
 -- the result is the identity that two letters name, or the letters that name none
 abbrev pub Names : List ℕ → Result Identity NoIdentity → Type 0
@@ -70,6 +71,9 @@ row_lines row =
 -- the identity of a row that is whole, or the uppermost of these refusals
 abbrev pub whole_in : List ℕ → Result Identity ColumnFault
 whole_in row =
-    cond (length row == 80)
-    (elim (first_bad row) [ Some column ↦ Err (fault_at BadByte column) | None ↦ elim (identity_in row) [ Some i ↦ Ok i | None ↦ Err (fault_at UnknownIdentity 1) ] ])
-    (Err (fault_at RowLength 0))
+    if length row == 80
+    then (elim (first_bad row) [
+      | Some column ↦ Err (fault_at BadByte column)
+      | None ↦ elim (identity_in row) [ Some i ↦ Ok i | None ↦ Err (fault_at UnknownIdentity 1) ]
+    ])
+    else Err (fault_at RowLength 0)

@@ -1,26 +1,52 @@
 // What a row is, by its first two columns.
-ghost use Rattle.std.specs.Prelude.{◌≡◌};
+ghost use Rattle.std.specs.Prelude.{◌≡◌, Some, codes};
 ghost use Rattle.cif.specs.Rows.{letters_of, Names};
 
+use std::error::Error;
+use std::fmt;
+
+/// What a row is, by the two letters that it begins with.
 #[derive(Clone, Copy, Debug, PartialEq, Eq)]
 pub enum Identity {
+    /// HD: header, which opens an extract.
     Header,
+    /// BS: basic schedule, one change to the timetable.
     BasicSchedule,
+    /// BX: basic schedule, extra details.
     BasicExtra,
+    /// LO: origin location.
     Origin,
+    /// LI: intermediate location.
     Intermediate,
+    /// LT: terminating location.
     Terminus,
+    /// CR: changes en route.
     ChangeEnRoute,
+    /// TI: TIPLOC insert.
     LocationInsert,
+    /// TA: TIPLOC amend.
     LocationAmend,
+    /// TD: TIPLOC delete.
     LocationDelete,
+    /// AA: association of two trains.
     Association,
+    /// ZZ: trailer, which closes an extract.
     Trailer,
 }
 
-// Two letters that no row begins with.
+/// Two letters that no row begins with.
 #[derive(Clone, Copy, Debug, PartialEq, Eq)]
 pub struct UnknownIdentity(pub [u8; 2]);
+
+impl fmt::Display for UnknownIdentity {
+    ghost output = { λ _. Some (codes "no row begins with these letters") };
+
+    fn fmt<W: fmt::Write>(&self, f: &mut fmt::Formatter<W>) -> fmt::Result {
+        f.write_str("no row begins with these letters")
+    }
+}
+
+impl Error for UnknownIdentity {}
 
 impl TryFrom<[u8; 2]> for Identity {
     type Error = UnknownIdentity;

@@ -1,4 +1,5 @@
-// Rows of the CIF layout: what they hold, or why they are turned away.
+//! Rows of the CIF layout: what they hold, or why they are turned away. docs/rows.md has the columns and forms, and
+//! docs/refusals.md the refusals.
 #![tactic(auto)]
 
 pub mod content;

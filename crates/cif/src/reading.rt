@@ -1,7 +1,8 @@
 // Any bytes as a row by itself.
 ghost use Rattle.std.specs.Prelude.{◌≡◌};
 ghost use Rattle.cif.specs.Refusals.{fault_of};
-ghost use Rattle.cif.specs.Reading.{letters_in, content_in, read_in, by_table, LeftmostIsTold};
+ghost use Rattle.cif.specs.Reading.{letters_in, content_in, read_in, fault_by_table, LeftmostIsTold};
+ghost use Rattle.cif.specs.WholeRows.{row_bytes, row_identity};
 
 use crate::content::Content;
 use crate::identity::Identity;
@@ -9,16 +10,16 @@ use crate::refusal::{ColumnFault, RowFault, beside};
 use crate::row::Row;
 
 impl Row {
-    // The row's identity, as it stands in columns 1 and 2.
+    /// The two letters of the row's identity, as they stand in columns 1 and 2.
     pub fn letters(&self) -> [u8; 2]
-        ensures { result ≡ letters_in self.now.bytes }
+        ensures { result ≡ letters_in (row_bytes self.now) }
     {
         [self.byte(1), self.byte(2)]
     }
 
-    // What the row holds, by its identity.
+    /// What the row holds, by its identity, or the fault of its fields.
     pub fn content(&self) -> Result<Content, ColumnFault>
-        ensures { result ≡ content_in self.now.identity self.now.bytes }
+        ensures { result ≡ content_in (row_identity self.now) (row_bytes self.now) }
     {
         match self.identity {
             Identity::Header => Ok(Content::Header(self.header()?)),
@@ -41,17 +42,15 @@ fn read_in_order(bytes: &[u8]) -> Result<Content, RowFault>
     Ok(content)
 }
 
-// What bytes hold as a row, or the fault that the table of refusals gives.
+/// What bytes hold as a row, or the fault that the table of refusals gives. The bytes may be any, and of any length.
 pub fn read(bytes: &[u8]) -> Result<Content, RowFault>
     ensures value { result ≡ read_in bytes.now }
-    ensures told { fault_of result ≡ by_table bytes.now }
+    ensures told { fault_of result ≡ fault_by_table bytes.now }
 {
     read_in_order(bytes)
 }
 
-// Of the fields that lack their form the leftmost is told, for every kind of row.
-pub fn leftmost_is_told() -> u8
+/// Of the fields that lack their form the leftmost is told, for every kind of row.
+pub fn leftmost_is_told()
     ensures { LeftmostIsTold }
-{
-    0
-}
+{}

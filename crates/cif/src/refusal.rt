@@ -6,34 +6,50 @@ ghost use Rattle.cif.specs.Texts.{words_of};
 use std::error::Error;
 use std::fmt;
 
-// What is refused, by its number.
+/// Why a call is turned away, by its number in the table of refusals, docs/refusals.md.
 #[derive(Clone, Copy, Debug, PartialEq, Eq)]
 pub enum Refusal {
+    /// The row is not 80 bytes.
     RowLength = 1,
+    /// A byte is outside 32 to 126.
     BadByte = 2,
+    /// The identity is none of the twelve.
     UnknownIdentity = 3,
+    /// The row does not fit the stage or the call.
     OutOfPlace = 4,
+    /// A field that is read lacks its form.
     BadForm = 5,
+    /// The schedule runs from a later day than it runs to.
     EndsBeforeStart = 6,
+    /// The file references do not fit.
     ReferenceMismatch = 7,
+    /// New, and the key is there already.
     KeyPresent = 8,
+    /// Revise or delete, and the key is not there.
     KeyAbsent = 9,
+    /// A 49th kept call.
     TooManyCalls = 10,
+    /// A third kept call at one TIPLOC.
     TooManyVisits = 11,
+    /// A row after 9,999 that is not ZZ, or a BS after 32 transactions.
     TooManyRows = 12,
+    /// New, and there are as many keys as the capacity.
     StoreFull = 13,
+    /// The station is no TIPLOC, or the day is above 36,524.
     NoSuchBoard = 14,
+    /// The board has fewer line slots than twice the capacity.
     TooFewSlots = 15,
 }
 
 impl Refusal {
+    /// The number in the table of refusals, 1 to 15.
     pub fn number(self) -> u8
         ensures { result ≡ number_of self }
     {
         self as u8
     }
 
-    // The fault of this refusal at a column.
+    /// The fault of this refusal at a column.
     pub fn at(self, column: u8) -> ColumnFault
         ensures { result ≡ fault_at self column }
     {
@@ -70,17 +86,21 @@ impl fmt::Display for Refusal {
 
 impl Error for Refusal {}
 
-// A refusal and the column that it is about, or 0.
+/// A refusal and the column that it is about.
 #[derive(Clone, Copy, Debug, PartialEq, Eq)]
 pub struct ColumnFault {
+    /// Why it is turned away.
     pub refusal: Refusal,
+    /// The column, 1 to 80, at which the field begins, or 0 where it is about none.
     pub column: u8,
 }
 
-// A column fault and the identity of its row, or blanks.
+/// A column fault and the identity of its row.
 #[derive(Clone, Copy, Debug, PartialEq, Eq)]
 pub struct RowFault {
+    /// The fault within the row.
     pub fault: ColumnFault,
+    /// The two letters of the row's identity, or two blanks where none is told.
     pub identity: [u8; 2],
 }
 
@@ -93,7 +113,7 @@ impl From<(ColumnFault, [u8; 2])> for RowFault {
     }
 }
 
-// A result whose fault has its place beside it, for the `?` of the level above.
+/// A result whose fault has its place beside it, for the `?` of the level above.
 pub fn beside<T, E, P: Drop>(r: Result<T, E>, place: P) -> Result<T, (E, P)>
     ensures { result ≡ raised (λ e. (e, place)) r }
 {

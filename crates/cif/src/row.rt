@@ -1,15 +1,18 @@
 // A row that was found whole.
-ghost use Rattle.std.specs.Prelude.{◌≡◌, true, length};
+ghost use Rattle.std.specs.Prelude.{◌≡◌, true, length, IsTrue};
 ghost use Rattle.cif.specs.Refusals.{missing};
 ghost use Rattle.cif.specs.Rows.{first_bad};
 
 use crate::identity::Identity;
 
-// 80 printable bytes, and their identity.
+/// How many bytes a row has. Its columns count from 1.
+pub const ROW_LENGTH: usize = 80;
+
+/// A row that was found whole: 80 bytes, each from 32 to 126, and their identity.
 #[derive(Clone, Copy, Debug, PartialEq, Eq)]
 pub struct Row {
-    pub(crate) bytes: [u8; 80],
+    pub(crate) bytes: [u8; ROW_LENGTH],
     pub(crate) identity: Identity,
     ghost long: { length bytes ≡ 80 },
-    ghost printable: { missing (first_bad bytes) ≡ true },
+    ghost printable: { IsTrue (missing (first_bad bytes)) },
 }

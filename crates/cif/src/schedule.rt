@@ -1,6 +1,7 @@
 // Rows that begin a schedule.
 ghost use Rattle.std.specs.Prelude.{◌≡◌};
 ghost use Rattle.cif.specs.Fields.{running_in, change_in, runs_on, schedule_in, operator_in};
+ghost use Rattle.cif.specs.WholeRows.{row_bytes};
 
 use crate::content::{BasicSchedule, Change, Running};
 use crate::refusal::{ColumnFault, Refusal};
@@ -24,7 +25,7 @@ impl Change {
 impl Row {
     // Columns 16 to 36 of a BS row that deletes nothing.
     fn running(&self) -> Result<Running, ColumnFault>
-        ensures { result ≡ running_in self.now.bytes }
+        ensures { result ≡ running_in (row_bytes self.now) }
     {
         let to = self.field(16, 21, date)?;
         let days = self.field(22, 28, days_run)?;
@@ -32,8 +33,9 @@ impl Row {
         Ok(Running { to, days, train })
     }
 
+    // What a BS row does with the schedule, by its transaction.
     fn change(&self, transaction: Transaction) -> Result<Change, ColumnFault>
-        ensures { result ≡ change_in transaction (running_in self.now.bytes) }
+        ensures { result ≡ change_in transaction (running_in (row_bytes self.now)) }
     {
         match transaction {
             Transaction::New => Ok(Change::New(self.running()?)),
@@ -42,9 +44,10 @@ impl Row {
         }
     }
 
-    // The fields of a BS row.
+    /// The fields of a BS row, or its first fault: of the fields without their form the leftmost, or else that it runs from a later
+    /// day than it runs to.
     pub fn basic_schedule(&self) -> Result<BasicSchedule, ColumnFault>
-        ensures { result ≡ schedule_in self.now.bytes }
+        ensures { result ≡ schedule_in (row_bytes self.now) }
     {
         let transaction = self.letter(3)?;
         let uid = self.field(4, 9, uid)?;
@@ -62,9 +65,9 @@ impl Row {
         })
     }
 
-    // The operator that a BX row names.
+    /// The operator that a BX row names, two bytes, or the fault that it lacks its form.
     pub fn operator(&self) -> Result<[u8; 2], ColumnFault>
-        ensures { result ≡ operator_in self.now.bytes }
+        ensures { result ≡ operator_in (row_bytes self.now) }
     {
         self.field(12, 13, |bytes| text(Alphabet::Labels, bytes))
     }

@@ -5,11 +5,13 @@ ghost use Rattle.std.specs.Fn.{FnOnceReturnsAt};
 ghost use Rattle.std.specs.Result.{result_ok};
 ghost use Rattle.cif.specs.Refusals.{uppermost, fault_of, formed};
 ghost use Rattle.cif.specs.Rows.{is_printable, first_bad, row_lines, whole_in};
+ghost use Rattle.cif.specs.WholeRows.{row_bytes, row_identity};
 
 use crate::identity::Identity;
 use crate::refusal::{ColumnFault, Refusal};
-use crate::row::Row;
+use crate::row::{ROW_LENGTH, Row};
 
+// Whether a byte is printable.
 fn is_printable(b: u8) -> bool
     ensures { result ≡ is_printable b }
 {
@@ -18,7 +20,7 @@ fn is_printable(b: u8) -> bool
 
 // The column of the first byte of a row that is not printable.
 fn first_bad(bytes: &[u8]) -> Option<u8>
-    requires { length bytes.now ≡ 80 }
+    requires { length bytes.now ≡ ROW_LENGTH }
     ensures { result ≡ first_bad bytes.now }
 {
     let index = bytes.iter().position(|b| !is_printable(*b))?;
@@ -26,12 +28,14 @@ fn first_bad(bytes: &[u8]) -> Option<u8>
 }
 
 impl Row {
-    // The row that bytes make, or why they make none.
+    /// The row that bytes make, or why they make none: they are not 80, one is not printable, or their identity is not known.
     pub fn check(bytes: &[u8]) -> Result<Row, ColumnFault>
-        ensures made { MatchResult result (λ row. (row.bytes ≡ bytes.now) × (whole_in bytes.now ≡ Ok row.identity)) (λ e. whole_in bytes.now ≡ Err e) }
+        ensures made { MatchResult result
+            (λ row. (row_bytes row ≡ bytes.now) × (whole_in bytes.now ≡ Ok (row_identity row)))
+            (λ e. whole_in bytes.now ≡ Err e) }
         ensures told { fault_of result ≡ uppermost (row_lines bytes.now) }
     {
-        let Ok(bytes) = <[u8; 80]>::try_from(bytes) else {
+        let Ok(bytes) = <[u8; ROW_LENGTH]>::try_from(bytes) else {
             return Err(Refusal::RowLength.at(0));
         };
         if let Some(column) = first_bad(&bytes) {
@@ -43,24 +47,28 @@ impl Row {
         }
     }
 
+    /// What the row is.
     pub fn identity(&self) -> Identity
-        ensures { result ≡ self.now.identity }
+        ensures { result ≡ row_identity self.now }
     {
         self.identity
     }
 
     // The row's own bytes at the columns first to last, which count from 1.
     pub(crate) fn columns(&self, first: usize, last: usize) -> &[u8]
-        requires { (1 ≤ first) × ((first ≤ last) × (last ≤ 80)) }
-        ensures { result.now ≡ columns first last self.now.bytes }
+        requires from { 1 ≤ first }
+        requires order { first ≤ last }
+        requires within { last ≤ ROW_LENGTH }
+        ensures { result.now ≡ columns first last (row_bytes self.now) }
     {
         &self.bytes[first - 1..last]
     }
 
     // The byte at a column.
     pub(crate) fn byte(&self, column: usize) -> u8
-        requires { (1 ≤ column) × (column ≤ 80) }
-        ensures { result ≡ byte_at column self.now.bytes }
+        requires from { 1 ≤ column }
+        requires within { column ≤ ROW_LENGTH }
+        ensures { result ≡ byte_at column (row_bytes self.now) }
     {
         self.bytes[column - 1]
     }
@@ -72,9 +80,13 @@ impl Row {
         last: u8,
         read: F,
     ) -> Result<T, ColumnFault>
-        requires within { (1 ≤ first) × ((first ≤ last) × (last ≤ 80)) }
+        requires from { 1 ≤ first }
+        requires order { first ≤ last }
+        requires within { last ≤ ROW_LENGTH }
         requires callable { F.IsAlwaysCallable read }
-        ensures { (found : Option T) × FnOnceReturnsAt F.FnOnce read (columns first last self.now.bytes) found × (result ≡ formed first found) }
+        ensures { (found : Option T)
+            × FnOnceReturnsAt F.FnOnce read (columns first last (row_bytes self.now)) found
+            × (result ≡ formed first found) }
     {
         read(self.columns(first as usize, last as usize)).ok_or(Refusal::BadForm.at(first))
     }
@@ -83,8 +95,11 @@ impl Row {
     pub(crate) fn letter<L: TryFrom<char>>(&self, column: u8) -> Result<L, ColumnFault>
     where
         L::Error: Drop,
-        requires { (1 ≤ column) × (column ≤ 80) }
-        ensures { (found : Result L L.Error) × L.try_from_gives (byte_at column self.now.bytes) found × (result ≡ formed column (result_ok found)) }
+        requires from { 1 ≤ column }
+        requires within { column ≤ ROW_LENGTH }
+        ensures { (found : Result L L.Error)
+            × L.try_from_gives (byte_at column (row_bytes self.now)) found
+            × (result ≡ formed column (result_ok found)) }
     {
         L::try_from(self.byte(column as usize) as char)
             .ok()

@@ -17,8 +17,8 @@ use Rattle.timetable.specs.Timetables.{IsMap, IsWithinCapacity}
 use Rattle.extract.specs.declared.stage.Stage.{Stage}
 use Rattle.extract.specs.Stages.{next_stage}
 use Rattle.extract.specs.Progress.{Progress, identity_for, after, after_row, idle}
-use Rattle.extract.specs.Judging.{Standing, admitted, taken_unless, is_misplaced, is_no_opening, content_lines}
-use Rattle.controller.specs.Calls.{heard_by}
+use Rattle.extract.specs.Judging.{Standing, verdict_on, verdict_unless, is_misplaced, is_no_opening, content_lines}
+use Rattle.controller.specs.Calls.{bytes_verdict}
 use Rattle.controller.specs.Agreeing.{Agrees}
 use Rattle.controller.proofs.Heard.{heard_after}
 use Rattle.controller.proofs.Fitting.{is_sound, MayGoOn, may_after}
@@ -63,7 +63,7 @@ module _ (misplaced : Stage → Identity → Bool) (places : Places misplaced) (
   abbrev Goal : Type 0
   Goal = MayGoOn s.store p
 
-  heard_may : heard_by misplaced s row ≡ Ok p → Goal
+  heard_may : bytes_verdict misplaced s row ≡ Ok p → Goal
   heard_may h = at (whole_in row) h
     where
       judge : (i : Identity) (c : Content) → Sound i c → missing (next_stage s.extract.stage i false) ≡ false → (o : Option ColumnFault) → uppermost (content_lines s c) ≡ o → raised (in_row (letters_in row)) (elim o [ Some f ↦ Err f | None ↦ Ok (after s.extract c) ]) ≡ Ok p → Goal
@@ -73,20 +73,20 @@ module _ (misplaced : Stage → Identity → Bool) (places : Places misplaced) (
           subst (λ (q : Progress). MayGoOn s.store q) same
           (may_after s is within may c sound.1 (ap (λ (q : Progress). is_lawful q.draft) same ∙ draft) (ap (λ (q : Progress). every_lawful q.changes) same ∙ lawful) (ap (λ j. missing (next_stage s.extract.stage j false)) sound.0 ∙ taken) e)
 
-      content : (i : Identity) → missing (next_stage s.extract.stage i false) ≡ false → (r : Result Content ColumnFault) → content_in i row ≡ r → raised (in_row (letters_in row)) (then r (λ c. admitted s c)) ≡ Ok p → Goal
+      content : (i : Identity) → missing (next_stage s.extract.stage i false) ≡ false → (r : Result Content ColumnFault) → content_in i row ≡ r → raised (in_row (letters_in row)) (then r (λ c. verdict_on s c)) ≡ Ok p → Goal
       content i taken (Err e) q h = err_ok _ p _ refl h
       content i taken (Ok c) q h = judge i c (content_sound i row c q) taken (uppermost (content_lines s c)) refl h
 
-      place : (i : Identity) (b : Bool) → misplaced s.extract.stage i ≡ b → raised (in_row (letters_in row)) (taken_unless b s i row) ≡ Ok p → Goal
+      place : (i : Identity) (b : Bool) → misplaced s.extract.stage i ≡ b → raised (in_row (letters_in row)) (verdict_unless b s i row) ≡ Ok p → Goal
       place i true q h = err_ok _ p _ refl h
       place i false q h = content i (places s.extract.stage i q) (content_in i row) refl h
 
-      at : (whole : Result Identity ColumnFault) → then (raised (in_row blanks) whole) (λ i. raised (in_row (letters_in row)) (taken_unless (misplaced s.extract.stage i) s i row)) ≡ Ok p → Goal
+      at : (whole : Result Identity ColumnFault) → then (raised (in_row blanks) whole) (λ i. raised (in_row (letters_in row)) (verdict_unless (misplaced s.extract.stage i) s i row)) ≡ Ok p → Goal
       at (Err e) h = err_ok _ p _ refl h
       at (Ok i) h = place i (misplaced s.extract.stage i) refl h
 
 -- one row more
-pub agrees_more : (misplaced : Stage → Identity → Bool) → Places misplaced → (s : Standing) (row : List ℕ) (p : Progress) (rows : List (List ℕ)) → is_lawful p.draft ≡ true → every_lawful p.changes ≡ true → heard_by misplaced s row ≡ Ok p → Agrees s.store rows s.extract → Agrees s.store (rows ++ row ∷ []) p
+pub agrees_more : (misplaced : Stage → Identity → Bool) → Places misplaced → (s : Standing) (row : List ℕ) (p : Progress) (rows : List (List ℕ)) → is_lawful p.draft ≡ true → every_lawful p.changes ≡ true → bytes_verdict misplaced s row ≡ Ok p → Agrees s.store rows s.extract → Agrees s.store (rows ++ row ∷ []) p
 agrees_more misplaced places s row p rows draft lawful h a =
     let may = heard_may misplaced places s row p a.is_map a.within (record { pending = a.pending; reading = a.reading }) draft lawful h in
     record {

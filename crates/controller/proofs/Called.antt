@@ -12,10 +12,10 @@ use Rattle.schedule.specs.declared.transaction.Transaction.TheVariants.{New as I
 use Rattle.schedule.specs.Transactions.{plain_of, is_lawful}
 use Rattle.timetable.specs.Timetables.{Meaning, IsMap, IsWithinCapacity}
 use Rattle.extract.specs.Progress.{Progress, idle}
-use Rattle.extract.specs.Judging.{Standing, is_misplaced, is_no_opening, Told}
+use Rattle.extract.specs.Judging.{Standing, is_misplaced, is_no_opening, GoesBy}
 use Rattle.controller.specs.declared.fault.ExtractFault.{ExtractFault}
 use Rattle.controller.specs.Faults.{in_extract}
-use Rattle.controller.specs.Calls.{Open, Row, refusals, refusal_of, heard_by}
+use Rattle.controller.specs.Calls.{Open, Row, refusals, refusal_of, bytes_verdict}
 use Rattle.controller.specs.Agreeing.{Agrees}
 use Rattle.controller.proofs.Heard.{heard_told}
 
@@ -24,11 +24,11 @@ ok_raised f (Ok x) = refl
 ok_raised f (Err e) = refl
 
 -- what a rule gave, where its call was done
-pub told_ok : {X E : Type 0} (after : X) (rule : Result X E) (r : Result (Unit {0}) E) → Told after rule r → is_ok r ≡ true → rule ≡ Ok after
+pub told_ok : {X E : Type 0} (after : X) (rule : Result X E) (r : Result (Unit {0}) E) → GoesBy after rule r → is_ok r ≡ true → rule ≡ Ok after
 told_ok after rule (Ok u) h e = h
 told_ok after rule (Err f) h e = absurd (true≢false (sym e))
 
-told_fault : {X E : Type 0} (after : X) (rule : Result X E) (r : Result (Unit {0}) E) → Told after rule r → fault_of r ≡ fault_of rule
+told_fault : {X E : Type 0} (after : X) (rule : Result X E) (r : Result (Unit {0}) E) → GoesBy after rule r → fault_of r ≡ fault_of rule
 told_fault after rule (Ok u) h = sym (ap fault_of h)
 told_fault after rule (Err f) h = sym (ap fault_of h)
 
@@ -37,14 +37,14 @@ mapped_both g f (Some x) = refl
 mapped_both g f None = refl
 
 module _ (s : Standing) (row : List ℕ) (p : Progress) (r : Result (Unit {0}) RowFault) (out : Result (Unit {0}) ExtractFault) (e : out ≡ raised (in_extract (s.extract.taken + 1)) r) where
-  carried : (rule : Result Progress RowFault) → Told p rule r → fault_of out ≡ option_map (in_extract (s.extract.taken + 1)) (fault_of rule)
+  carried : (rule : Result Progress RowFault) → GoesBy p rule r → fault_of out ≡ option_map (in_extract (s.extract.taken + 1)) (fault_of rule)
   carried rule h = ap fault_of e ∙ (raised_told (in_extract (s.extract.taken + 1)) r ∙ ap (option_map (in_extract (s.extract.taken + 1))) (told_fault p rule r h))
 
-  pub row_refused : Told p (heard_by is_misplaced s row) r → fault_of out ≡ refusal_of (Row row) s 0
-  row_refused h = carried (heard_by is_misplaced s row) h ∙ (ap (option_map (in_extract (s.extract.taken + 1))) (heard_told is_misplaced s row) ∙ mapped_both (in_extract (s.extract.taken + 1)) (told_in row) (uppermost (refusals (Row row) s 0)))
+  pub row_refused : GoesBy p (bytes_verdict is_misplaced s row) r → fault_of out ≡ refusal_of (Row row) s 0
+  row_refused h = carried (bytes_verdict is_misplaced s row) h ∙ (ap (option_map (in_extract (s.extract.taken + 1))) (heard_told is_misplaced s row) ∙ mapped_both (in_extract (s.extract.taken + 1)) (told_in row) (uppermost (refusals (Row row) s 0)))
 
-  pub opening_refused : Told p (heard_by is_no_opening s row) r → fault_of out ≡ refusal_of (Open row) s 0
-  opening_refused h = carried (heard_by is_no_opening s row) h ∙ (ap (option_map (in_extract (s.extract.taken + 1))) (heard_told is_no_opening s row) ∙ mapped_both (in_extract (s.extract.taken + 1)) (told_in row) (uppermost (refusals (Open row) s 0)))
+  pub opening_refused : GoesBy p (bytes_verdict is_no_opening s row) r → fault_of out ≡ refusal_of (Open row) s 0
+  opening_refused h = carried (bytes_verdict is_no_opening s row) h ∙ (ap (option_map (in_extract (s.extract.taken + 1))) (heard_told is_no_opening s row) ∙ mapped_both (in_extract (s.extract.taken + 1)) (told_in row) (uppermost (refusals (Open row) s 0)))
 
   pub same_ok : is_ok out ≡ is_ok r
   same_ok = ap is_ok e ∙ ok_raised (in_extract (s.extract.taken + 1)) r

@@ -18,9 +18,9 @@ use Rattle.schedule.specs.declared.transaction.Change.TheVariants.{New, Revise, 
 use Rattle.schedule.specs.Building.{bringing_lines}
 use Rattle.extract.specs.declared.stage.Stage.{Stage}
 use Rattle.extract.specs.Progress.{Progress, after, after_row}
-use Rattle.extract.specs.Judging.{Standing, judged, admitted, taken_unless, content_lines, location_lines, Told}
+use Rattle.extract.specs.Judging.{Standing, value_unless, verdict_on, verdict_unless, content_lines, location_lines, GoesBy}
 use Rattle.extract.proofs.Lines.{first_told, next_told}
-use Rattle.controller.specs.Calls.{misfits, held_lines, value_in, heard_by}
+use Rattle.controller.specs.Calls.{misfits, held_lines, value_in, bytes_verdict}
 
 late_both : (xs ys : List TableLine) → Late xs → Late ys → Late (xs ++ ys)
 late_both [] ys p q = q
@@ -47,7 +47,7 @@ held_late : (s : Standing) (o : Option Content) → Late (held_lines s o)
 held_late s (Some c) = content_late s c
 held_late s None = tt
 
-judged_told : {X : Type 0} (ls : List TableLine) (x : X) → fault_of (judged ls x) ≡ uppermost ls
+judged_told : {X : Type 0} (ls : List TableLine) (x : X) → fault_of (value_unless ls x) ≡ uppermost ls
 judged_told ls x = of (uppermost ls)
   where
     of : (o : Option ColumnFault) → fault_of (elim o [ Some f ↦ Err f | None ↦ Ok x ]) ≡ o
@@ -61,11 +61,11 @@ placed misplaced s i row = line OutOfPlace 1 misplaced ∷ (field_lines i row ++
 placed_late : (misplaced : Bool) (s : Standing) (i : Identity) (row : List ℕ) → Late (placed misplaced s i row)
 placed_late misplaced s i row = (refl, late_both (field_lines i row) _ (fields_late i row) (late_both (held_lines s (value_in (content_in i row))) [] (held_late s (value_in (content_in i row))) tt))
 
-taken_told : (misplaced : Bool) (s : Standing) (i : Identity) (row : List ℕ) → fault_of (taken_unless misplaced s i row) ≡ uppermost (placed misplaced s i row)
+taken_told : (misplaced : Bool) (s : Standing) (i : Identity) (row : List ℕ) → fault_of (verdict_unless misplaced s i row) ≡ uppermost (placed misplaced s i row)
 taken_told true s i row = refl
 taken_told false s i row = of (content_in i row) (content_told i row)
   where
-    of : (r : Result Content ColumnFault) → fault_of r ≡ uppermost (field_lines i row) → fault_of (then r (λ c. admitted s c)) ≡ uppermost (field_lines i row ++ (held_lines s (value_in r) ++ []))
+    of : (r : Result Content ColumnFault) → fault_of r ≡ uppermost (field_lines i row) → fault_of (then r (λ c. verdict_on s c)) ≡ uppermost (field_lines i row ++ (held_lines s (value_in r) ++ []))
     of (Err e) h = sym (first_told (field_lines i row) [] e (sym h))
     of (Ok c) h = judged_told (content_lines s c) (after s.extract c) ∙ sym (next_told (field_lines i row) (content_lines s c ++ []) (sym h) ∙ ap uppermost (append-nil (content_lines s c)))
 
@@ -79,13 +79,13 @@ module _ (misplaced : Stage → Identity → Bool) (s : Standing) (row : List �
   read_of whole = then (raised (in_row blanks) whole) (λ i. raised (in_row (letters_in row)) (content_in i row))
 
   abbrev heard_of : Result Identity ColumnFault → Result Progress RowFault
-  heard_of whole = then (raised (in_row blanks) whole) (λ i. raised (in_row (letters_in row)) (taken_unless (misplaced s.extract.stage i) s i row))
+  heard_of whole = then (raised (in_row blanks) whole) (λ i. raised (in_row (letters_in row)) (verdict_unless (misplaced s.extract.stage i) s i row))
 
   value_raised : {X E F : Type 0} (f : E → F) (r : Result X E) → value_in (raised f r) ≡ value_in r
   value_raised f (Ok x) = refl
   value_raised f (Err e) = refl
 
-  pub heard_told : fault_of (heard_by misplaced s row) ≡ option_map (told_in row) (uppermost (lines (eqb (length row) 80) (first_bad row) (identity_in row) (value_in (read_in row))))
+  pub heard_told : fault_of (bytes_verdict misplaced s row) ≡ option_map (told_in row) (uppermost (lines (eqb (length row) 80) (first_bad row) (identity_in row) (value_in (read_in row))))
   heard_told = at (eqb (length row) 80) (first_bad row) (identity_in row)
     where
       at : (long : Bool) (bad : Option ℕ) (id : Option Identity) → fault_of (heard_of (whole_of long bad id)) ≡ option_map (told_in row) (uppermost (lines long bad id (value_in (read_of (whole_of long bad id)))))
@@ -93,23 +93,23 @@ module _ (misplaced : Stage → Identity → Bool) (s : Standing) (row : List �
       at true (Some column) id = refl
       at true None None = refl
       at true None (Some i) =
-          raised_told (in_row (letters_in row)) (taken_unless (misplaced s.extract.stage i) s i row)
+          raised_told (in_row (letters_in row)) (verdict_unless (misplaced s.extract.stage i) s i row)
           ∙ (ap (option_map (in_row (letters_in row))) (taken_told (misplaced s.extract.stage i) s i row)
           ∙ (late_told row (placed (misplaced s.extract.stage i) s i row) (placed_late (misplaced s.extract.stage i) s i row)
           ∙ ap (λ o. option_map (told_in row) (uppermost (line OutOfPlace 1 (misplaced s.extract.stage i) ∷ (field_lines i row ++ (held_lines s o ++ []))))) (sym (value_raised (in_row (letters_in row)) (content_in i row)))))
 
-  pub heard_after : (p : Progress) → heard_by misplaced s row ≡ Ok p → p ≡ after_row s.extract row
+  pub heard_after : (p : Progress) → bytes_verdict misplaced s row ≡ Ok p → p ≡ after_row s.extract row
   heard_after p h = at (whole_in row) h
     where
       judge : (c : Content) (o : Option ColumnFault) → raised (in_row (letters_in row)) (elim o [ Some f ↦ Err f | None ↦ Ok (after s.extract c) ]) ≡ Ok p → p ≡ after s.extract c
       judge c (Some f) h = err_ok _ p _ refl h
       judge c None h = ok_is _ p (after s.extract c) h refl
 
-      content : (r : Result Content ColumnFault) → raised (in_row (letters_in row)) (then r (λ c. admitted s c)) ≡ Ok p → p ≡ elim (raised (in_row (letters_in row)) r) [ Ok c ↦ after s.extract c | Err e ↦ s.extract ]
+      content : (r : Result Content ColumnFault) → raised (in_row (letters_in row)) (then r (λ c. verdict_on s c)) ≡ Ok p → p ≡ elim (raised (in_row (letters_in row)) r) [ Ok c ↦ after s.extract c | Err e ↦ s.extract ]
       content (Err e) h = err_ok _ p _ refl h
       content (Ok c) h = judge c (uppermost (content_lines s c)) h
 
-      place : (b : Bool) (i : Identity) → raised (in_row (letters_in row)) (taken_unless b s i row) ≡ Ok p → p ≡ elim (raised (in_row (letters_in row)) (content_in i row)) [ Ok c ↦ after s.extract c | Err e ↦ s.extract ]
+      place : (b : Bool) (i : Identity) → raised (in_row (letters_in row)) (verdict_unless b s i row) ≡ Ok p → p ≡ elim (raised (in_row (letters_in row)) (content_in i row)) [ Ok c ↦ after s.extract c | Err e ↦ s.extract ]
       place true i h = err_ok _ p _ refl h
       place false i h = content (content_in i row) h
 
@@ -127,16 +127,16 @@ beside_err (Ok y) place x h = let z : ◌≡◌ {A = ℕ} 0 1 = cc in absurd (le
 beside_err {X} {E} {P} (Err e) place x h = let q : ◌≡◌ {A = E × P} (e, place) x = cc in (ap (λ (v : E × P). Err v.0) q, ap (λ (v : E × P). v.1) q)
 
 -- a row that was found whole is heard by its identity
-module _ (misplaced : Stage → Identity → Bool) (s : Standing) (bytes held : List ℕ) (i : Identity) (p : Progress) (t : Result (Unit {0}) ColumnFault) (same : held ≡ bytes) (whole : whole_in bytes ≡ Ok i) (told : Told p (taken_unless (misplaced s.extract.stage i) s i held) t) where
-  heard_is : heard_by misplaced s bytes ≡ raised (in_row (letters_in bytes)) (taken_unless (misplaced s.extract.stage i) s i held)
-  heard_is = ap (λ w. then (raised (in_row blanks) w) (λ j. raised (in_row (letters_in bytes)) (taken_unless (misplaced s.extract.stage j) s j bytes))) whole ∙ ap (λ b. raised (in_row (letters_in bytes)) (taken_unless (misplaced s.extract.stage i) s i b)) (sym same)
+module _ (misplaced : Stage → Identity → Bool) (s : Standing) (bytes held : List ℕ) (i : Identity) (p : Progress) (t : Result (Unit {0}) ColumnFault) (same : held ≡ bytes) (whole : whole_in bytes ≡ Ok i) (told : GoesBy p (verdict_unless (misplaced s.extract.stage i) s i held) t) where
+  heard_is : bytes_verdict misplaced s bytes ≡ raised (in_row (letters_in bytes)) (verdict_unless (misplaced s.extract.stage i) s i held)
+  heard_is = ap (λ w. then (raised (in_row blanks) w) (λ j. raised (in_row (letters_in bytes)) (verdict_unless (misplaced s.extract.stage j) s j bytes))) whole ∙ ap (λ b. raised (in_row (letters_in bytes)) (verdict_unless (misplaced s.extract.stage i) s i b)) (sym same)
 
-  pub heard_ok : (u : Unit {0}) → t ≡ Ok u → heard_by misplaced s bytes ≡ Ok p
-  heard_ok u e = heard_is ∙ ap (raised (in_row (letters_in bytes))) (subst (λ (r : Result (Unit {0}) ColumnFault). Told p (taken_unless (misplaced s.extract.stage i) s i held) r) e told)
+  pub heard_ok : (u : Unit {0}) → t ≡ Ok u → bytes_verdict misplaced s bytes ≡ Ok p
+  heard_ok u e = heard_is ∙ ap (raised (in_row (letters_in bytes))) (subst (λ (r : Result (Unit {0}) ColumnFault). GoesBy p (verdict_unless (misplaced s.extract.stage i) s i held) r) e told)
 
-  pub heard_err : (f : ColumnFault) → t ≡ Err f → heard_by misplaced s bytes ≡ Err (in_row (letters_in bytes) f)
-  heard_err f e = heard_is ∙ ap (raised (in_row (letters_in bytes))) (subst (λ (r : Result (Unit {0}) ColumnFault). Told p (taken_unless (misplaced s.extract.stage i) s i held) r) e told)
+  pub heard_err : (f : ColumnFault) → t ≡ Err f → bytes_verdict misplaced s bytes ≡ Err (in_row (letters_in bytes) f)
+  heard_err f e = heard_is ∙ ap (raised (in_row (letters_in bytes))) (subst (λ (r : Result (Unit {0}) ColumnFault). GoesBy p (verdict_unless (misplaced s.extract.stage i) s i held) r) e told)
 
 -- a fault that is the rule's was told
-pub told_err : {X E : Type 0} (after : X) (rule : Result X E) (r : Result (Unit {0}) E) (e : E) → r ≡ Err e → rule ≡ Err e → Told after rule r
-told_err {X} {E} after rule r e h k = subst (λ (x : Result (Unit {0}) E). Told after rule x) (sym h) k
+pub told_err : {X E : Type 0} (after : X) (rule : Result X E) (r : Result (Unit {0}) E) (e : E) → r ≡ Err e → rule ≡ Err e → GoesBy after rule r
+told_err {X} {E} after rule r e h k = subst (λ (x : Result (Unit {0}) E). GoesBy after rule x) (sym h) k

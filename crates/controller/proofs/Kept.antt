@@ -21,14 +21,14 @@ use Rattle.extract.specs.Judging.{Standing}
 use Rattle.board.specs.declared.display.StationDay.{StationDay}
 use Rattle.board.specs.declared.line.Line.{Line}
 use Rattle.board.specs.Lines.{BoardOf, LinesFor}
-use Rattle.board.specs.Strikes.{struck}
+use Rattle.board.specs.Strikes.{lines_without}
 use Rattle.board.proofs.Strikes.{lines_stay}
 use Rattle.controller.specs.declared.fault.ExtractFault.{ExtractFault}
 use Rattle.controller.specs.declared.answer.Answer.{Answer}
 use Rattle.controller.specs.declared.answer.Answer.TheVariants.{Done, Refused}
 use Rattle.controller.specs.Calls.{Call, refusal_of}
 use Rattle.controller.specs.Agreeing.{Agrees}
-use Rattle.controller.specs.Ledger.{Ledger, with_confirmed, with_shown, accepting, confirmed_map, standing_of, LinesOf, Accepts, AnswerOf, answered, names}
+use Rattle.controller.specs.Ledger.{Ledger, with_confirmed, with_shown, ledger_with, confirmed_map, standing_of, LinesOf, Accepts, AnswerOf, answer_of, has_train}
 use Rattle.controller.specs.Keeping.{State, KeepsTo, is_confirm, Obeyed, Obeys}
 use Rattle.controller.proofs.Called.{idle_agrees}
 
@@ -40,10 +40,10 @@ standing_is s ℓ k = same s.standing.store.capacity k.extract.progress k.map k.
         → ◌≡◌ {A = Standing} (record { extract = p; store = record { map = m; capacity = c }; reference = r }) (record { extract = q; store = record { map = n; capacity = c }; reference = t })
     same c e f g = cc
 
-done_or_refused : (r : Result (Unit {0}) ExtractFault) (o : Option ExtractFault) → fault_of r ≡ o → MatchOption o (answered r ≡ Done) (λ f. answered r ≡ Refused f)
-done_or_refused r o e = subst (λ (v : Option ExtractFault). MatchOption v (answered r ≡ Done) (λ f. answered r ≡ Refused f)) e (of r)
+done_or_refused : (r : Result (Unit {0}) ExtractFault) (o : Option ExtractFault) → fault_of r ≡ o → MatchOption o (answer_of r ≡ Done) (λ f. answer_of r ≡ Refused f)
+done_or_refused r o e = subst (λ (v : Option ExtractFault). MatchOption v (answer_of r ≡ Done) (λ f. answer_of r ≡ Refused f)) e (of r)
   where
-    of : (q : Result (Unit {0}) ExtractFault) → MatchOption (fault_of q) (answered q ≡ Done) (λ f. answered q ≡ Refused f)
+    of : (q : Result (Unit {0}) ExtractFault) → MatchOption (fault_of q) (answer_of q ≡ Done) (λ f. answer_of q ≡ Refused f)
     of (Ok u) = refl
     of (Err f) = refl
 
@@ -54,30 +54,30 @@ accepts_or_refused P Q a None g h = g h
 -- a call that answers only that it was done obeys, where what it does when it is done keeps to the ledger, and nothing changes when it is refused
 module _ (before after : State) (call : Call) (r : Result (Unit {0}) ExtractFault) where
   abbrev Does : Ledger → Type 0
-  Does ℓ = KeepsTo after (accepting ℓ call) × (is_confirm call ≡ true → struck (names (transactions_of ℓ.rows)) before.lines ≡ struck (names (transactions_of ℓ.rows)) after.lines)
+  Does ℓ = KeepsTo after (ledger_with ℓ call) × (is_confirm call ≡ true → lines_without (has_train (transactions_of ℓ.rows)) before.lines ≡ lines_without (has_train (transactions_of ℓ.rows)) after.lines)
 
   pub obeys_done :
       fault_of r ≡ refusal_of call before.standing before.slots
-      → ((ℓ : Ledger) → answered r ≡ Done → Accepts ℓ call (answered r))
+      → ((ℓ : Ledger) → answer_of r ≡ Done → Accepts ℓ call (answer_of r))
       → (is_ok r ≡ true → (ℓ : Ledger) → KeepsTo before ℓ → Does ℓ)
       → (is_ok r ≡ false → after ≡ before)
       → after.standing.store.capacity ≡ before.standing.store.capacity
       → after.slots ≡ before.slots
-      → Obeys before after call (answered r)
+      → Obeys before after call (answer_of r)
   obeys_done told accepts does stays capacity slots = record { ledger = at r refl; capacity = capacity; slots = slots }
     where
-      answer : (ℓ : Ledger) → KeepsTo before ℓ → AnswerOf ℓ before.standing.store.capacity before.slots call (answered r)
-      answer ℓ k = accepts_or_refused _ _ (answered r) (refusal_of call (standing_of ℓ before.standing.store.capacity) before.slots) (accepts ℓ) (done_or_refused r _ (told ∙ ap (λ s. refusal_of call s before.slots) (standing_is before ℓ k)))
+      answer : (ℓ : Ledger) → KeepsTo before ℓ → AnswerOf ℓ before.standing.store.capacity before.slots call (answer_of r)
+      answer ℓ k = accepts_or_refused _ _ (answer_of r) (refusal_of call (standing_of ℓ before.standing.store.capacity) before.slots) (accepts ℓ) (done_or_refused r _ (told ∙ ap (λ s. refusal_of call s before.slots) (standing_is before ℓ k)))
 
-      at : (q : Result (Unit {0}) ExtractFault) → r ≡ q → (ℓ : Ledger) → KeepsTo before ℓ → Obeyed before after call (answered r) ℓ
+      at : (q : Result (Unit {0}) ExtractFault) → r ≡ q → (ℓ : Ledger) → KeepsTo before ℓ → Obeyed before after call (answer_of r) ℓ
       at (Ok u) e ℓ k =
           let d = does (ap is_ok e) ℓ k in
-          let a : answered r ≡ Done = ap answered e in
+          let a : answer_of r ≡ Done = ap answer_of e in
           subst (λ (v : Answer). AnswerOf ℓ before.standing.store.capacity before.slots call v → Obeyed before after call v ℓ) (sym a)
           (λ t. record { told = t; keeps = d.0; unnamed = λ c y. d.1 c })
           (answer ℓ k)
       at (Err f) e ℓ k =
-          let a : answered r ≡ Refused f = ap answered e in
+          let a : answer_of r ≡ Refused f = ap answer_of e in
           subst (λ (v : Answer). AnswerOf ℓ before.standing.store.capacity before.slots call v → Obeyed before after call v ℓ) (sym a)
           (λ t. record { told = t; keeps = subst (λ (s : State). KeepsTo s ℓ) (sym (stays (ap is_ok e))) k; unnamed = λ c y. absurd (true≢false (sym y)) })
           (answer ℓ k)
@@ -123,7 +123,7 @@ most_twice : (a b : ℕ) → min (min a 4294967295 + b) 4294967295 ≡ min (a + 
 most_twice a b = omega arith
 
 -- a train that is not named has no transaction
-not_named : (cs : List Change) (uid : ℕ) → names cs uid ≡ false → of_train uid cs ≡ []
+not_named : (cs : List Change) (uid : ℕ) → has_train cs uid ≡ false → of_train uid cs ≡ []
 not_named cs uid h = of (of_train uid cs) h
   where
     of : (ts : List Change) → nat_lt 0 (length ts) ≡ false → ts ≡ []
@@ -131,10 +131,10 @@ not_named cs uid h = of (of_train uid cs) h
     of (t ∷ ts) h = absurd (true≢false (let z : nat_lt 0 (length (t ∷ ts)) ≡ true = grind (arith, nat_tests) in sym z ∙ h))
 
 -- the lines of trains that are not named are the same list
-unnamed_stay : (m : List Record) (cs : List Change) (shown : Option StationDay) (xs ys : List Line) → IsMap m → every_lawful cs ≡ true → LinesFor m shown xs → LinesFor (done_all m cs) shown ys → struck (names cs) xs ≡ struck (names cs) ys
-unnamed_stay m cs None xs ys is lawful p q = ap (struck (names cs)) (p ∙ sym q)
+unnamed_stay : (m : List Record) (cs : List Change) (shown : Option StationDay) (xs ys : List Line) → IsMap m → every_lawful cs ≡ true → LinesFor m shown xs → LinesFor (done_all m cs) shown ys → lines_without (has_train cs) xs ≡ lines_without (has_train cs) ys
+unnamed_stay m cs None xs ys is lawful p q = ap (lines_without (has_train cs)) (p ∙ sym q)
 unnamed_stay m cs (Some s) xs ys is lawful p q =
-    lines_stay m (done_all m cs) s.station s.day (names cs) xs ys (λ k h. sym (unnamed_keep m cs k is lawful (not_named cs k.uid h))) p q
+    lines_stay m (done_all m cs) s.station s.day (has_train cs) xs ys (λ k h. sym (unnamed_keep m cs k is lawful (not_named cs k.uid h))) p q
 
 -- an extract is confirmed
 module _ (before after : State) (ℓ : Ledger) (k : KeepsTo before ℓ)
@@ -195,8 +195,8 @@ module _ (before after : State) (ℓ : Ledger) (k : KeepsTo before ℓ)
       confirmed = confirmed_stays before.standing.store after.standing.store ℓ.start (ℓ.confirmed ++ transactions_of ℓ.rows) same_capacity more;
     }
 
-    pub keeps_unnamed : struck (names (transactions_of ℓ.rows)) before.lines ≡ struck (names (transactions_of ℓ.rows)) after.lines
-    keeps_unnamed = subst (λ (xs : List Change). struck (names xs) before.lines ≡ struck (names xs) after.lines) of_rows
+    pub keeps_unnamed : lines_without (has_train (transactions_of ℓ.rows)) before.lines ≡ lines_without (has_train (transactions_of ℓ.rows)) after.lines
+    keeps_unnamed = subst (λ (xs : List Change). lines_without (has_train xs) before.lines ≡ lines_without (has_train xs) after.lines) of_rows
         (unnamed_stay before.standing.store.map cs before.shown before.lines after.lines k.extract.is_map lawful
         (subst (λ (o : Option StationDay). LinesFor before.standing.store.map o before.lines) (sym k.shown) (subst (λ (m : List Record). LinesFor m ℓ.shown before.lines) (sym k.map) k.lines))
         (subst (λ (m : List Record). LinesFor m before.shown after.lines) done_map lines))

@@ -1,6 +1,6 @@
 -- The calls, and the table of refusals: when each is turned away, and with what.
 use Rattle.std.specs.Prelude.{ℕ, ◌+◌, Bool, true, false, cond, not, List, [], ◌∷◌, ◌++◌, is_some, Some, None, Ok, Err, Option, Result}
-use Rattle.std.specs.Option.{option_map}
+use Rattle.std.specs.Option.{option_map, option_map_or}
 use Rattle.cif.specs.declared.content.Content.{Content}
 use Rattle.cif.specs.declared.identity.Identity.{Identity}
 use Rattle.cif.specs.declared.refusal.Refusal.TheVariants.{OutOfPlace}
@@ -14,7 +14,7 @@ use Rattle.extract.specs.declared.stage.Stage.{Stage}
 use Rattle.extract.specs.declared.stage.Stage.TheVariants.{Idle, Complete}
 use Rattle.extract.specs.Stages.{is_stage}
 use Rattle.extract.specs.Progress.{Progress}
-use Rattle.extract.specs.Judging.{Standing, content_lines, taken_unless, is_misplaced, is_no_opening}
+use Rattle.extract.specs.Judging.{Standing, content_lines, verdict_unless, is_misplaced, is_no_opening}
 use Rattle.controller.specs.declared.fault.ExtractFault.{ExtractFault}
 use Rattle.controller.specs.Faults.{in_extract}
 
@@ -34,14 +34,9 @@ row_of (Open row) = Some row
 row_of (Row row) = Some row
 row_of _ = None
 
--- the lines of the table that a value gives, if there is one
-abbrev pub lines_if_some : {X : Type 0} → Option X → (X → List TableLine) → List TableLine
-lines_if_some (Some x) lines = lines x
-lines_if_some None lines = []
-
 -- the lines of the table that a call's row gives, if it has a row
 abbrev pub on_row : Call → (List ℕ → List TableLine) → List TableLine
-on_row call lines = lines_if_some (row_of call) lines
+on_row call lines = option_map_or lines (row_of call) []
 
 -- a row of an unknown identity fits no stage
 abbrev pub misfits : (Stage → Identity → Bool) → Stage → Option Identity → Bool
@@ -68,7 +63,7 @@ value_in (Err e) = None
 
 -- the lines of the table that ask for what a row holds, if it can be read
 abbrev pub held_lines : Standing → Option Content → List TableLine
-held_lines s content = lines_if_some content (content_lines s)
+held_lines s content = option_map_or (content_lines s) content []
 
 -- the lines of the table that ask for the board; with a call that is given none, any number may stand for its line slots
 abbrev pub board_lines : Call → ℕ → ℕ → List TableLine
@@ -103,7 +98,7 @@ abbrev pub refusal_of : Call → Standing → ℕ → Option ExtractFault
 refusal_of call s slots = option_map (told_with call s) (uppermost (refusals call s slots))
 
 -- the same of a row as it is heard step by step: is it a row, is it in place, are its fields in form, does no line of the table hold
-abbrev pub heard_by : (Stage → Identity → Bool) → Standing → List ℕ → Result Progress RowFault
-heard_by misplaced s row =
+abbrev pub bytes_verdict : (Stage → Identity → Bool) → Standing → List ℕ → Result Progress RowFault
+bytes_verdict misplaced s row =
     then (raised (in_row blanks) (whole_in row)) (λ i.
-    raised (in_row (letters_in row)) (taken_unless (misplaced s.extract.stage i) s i row))
+    raised (in_row (letters_in row)) (verdict_unless (misplaced s.extract.stage i) s i row))

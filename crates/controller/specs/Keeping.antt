@@ -8,13 +8,13 @@ use Rattle.board.specs.declared.display.Board.{Board}
 use Rattle.board.specs.declared.display.StationDay.{StationDay}
 use Rattle.board.specs.declared.line.Line.{Line}
 use Rattle.board.specs.Boards.{shown_of, lines_of, slots_of}
-use Rattle.board.specs.Strikes.{struck}
+use Rattle.board.specs.Strikes.{lines_without}
 use Rattle.controller.specs.declared.answer.Answer.{Answer}
 use Rattle.controller.specs.declared.controller.Controller.{Controller}
 use Rattle.controller.specs.Shown.{standing_in, count_of}
 use Rattle.controller.specs.Calls.{Call, Confirm}
 use Rattle.controller.specs.Agreeing.{Agrees}
-use Rattle.controller.specs.Ledger.{Ledger, stepped, confirmed_map, tally_of, LinesOf, AnswerOf, is_accepted, names}
+use Rattle.controller.specs.Ledger.{Ledger, ledger_after, confirmed_map, tally_of, LinesOf, AnswerOf, is_accepted, has_train}
 
 -- how a controller and its board stand: what calls are judged by, the tally, and the board's station and day, lines and line slots
 pub record State : Type 0 where
@@ -53,10 +53,10 @@ is_confirm _ = false
 -- after it, and around a confirmation the lines of trains that the extract does not name are the same list
 pub record Obeyed (before after : State) (call : Call) (answer : Answer) (ℓ : Ledger) : Type 0 where
   pub told : AnswerOf ℓ before.standing.store.capacity before.slots call answer
-  pub keeps : KeepsTo after (stepped ℓ call (is_accepted answer))
+  pub keeps : KeepsTo after (ledger_after ℓ call (is_accepted answer))
   pub unnamed :
       is_confirm call ≡ true → is_accepted answer ≡ true
-      → struck (names (transactions_of ℓ.rows)) before.lines ≡ struck (names (transactions_of ℓ.rows)) after.lines
+      → lines_without (has_train (transactions_of ℓ.rows)) before.lines ≡ lines_without (has_train (transactions_of ℓ.rows)) after.lines
 
 -- a call obeys every ledger that was kept to before it; capacity and line slots stay
 pub record Obeys (before after : State) (call : Call) (answer : Answer) : Type 0 where

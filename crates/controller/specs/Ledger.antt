@@ -51,17 +51,17 @@ abbrev pub with_shown : Ledger → List ℕ → ℕ → Ledger
 with_shown ℓ station day = record ℓ { shown = Some (record { station = station; day = day }) }
 
 -- what an accepted call changes
-abbrev pub accepting : Ledger → Call → Ledger
-accepting ℓ (Open row) = with_row ℓ row
-accepting ℓ (Row row) = with_row ℓ row
-accepting ℓ Confirm = with_confirmed ℓ
-accepting ℓ Abandon = without_rows ℓ
-accepting ℓ (Turn station day) = with_shown ℓ station day
-accepting ℓ _ = ℓ
+abbrev pub ledger_with : Ledger → Call → Ledger
+ledger_with ℓ (Open row) = with_row ℓ row
+ledger_with ℓ (Row row) = with_row ℓ row
+ledger_with ℓ Confirm = with_confirmed ℓ
+ledger_with ℓ Abandon = without_rows ℓ
+ledger_with ℓ (Turn station day) = with_shown ℓ station day
+ledger_with ℓ _ = ℓ
 
 -- after a call, by whether it was accepted: a refused call changes nothing
-abbrev pub stepped : Ledger → Call → Bool → Ledger
-stepped ℓ call accepted = cond accepted (accepting ℓ call) ℓ
+abbrev pub ledger_after : Ledger → Call → Bool → Ledger
+ledger_after ℓ call accepted = cond accepted (ledger_with ℓ call) ℓ
 
 -- WORKED OUT AFRESH: the confirmed map, from the start and the confirmed transactions alone
 abbrev pub confirmed_map : Ledger → List Record
@@ -106,18 +106,18 @@ is_accepted (Refused f) = false
 is_accepted _ = true
 
 -- the answer to a call that answers only that it was done
-abbrev pub answered : Result (Unit {0}) ExtractFault → Answer
-answered (Ok u) = Done
-answered (Err f) = Refused f
+abbrev pub answer_of : Result (Unit {0}) ExtractFault → Answer
+answer_of (Ok u) = Done
+answer_of (Err f) = Refused f
 
 -- whether some of the transactions are of a train
-abbrev pub names : List Change → ℕ → Bool
-names cs uid = nat_lt 0 (length (of_train uid cs))
+abbrev pub has_train : List Change → ℕ → Bool
+has_train cs uid = nat_lt 0 (length (of_train uid cs))
 
 -- a call as it is written down: with whether it was accepted
 abbrev pub Entry : Type 0
 Entry = (Call × Bool)
 
 -- the ledger after entries, in order
-abbrev pub written : Ledger → List Entry → Ledger
-written ℓ entries = fold (λ (l : Ledger) (e : Entry). stepped l e.0 e.1) ℓ entries
+abbrev pub ledger_after_all : Ledger → List Entry → Ledger
+ledger_after_all ℓ entries = fold (λ (l : Ledger) (e : Entry). ledger_after l e.0 e.1) ℓ entries

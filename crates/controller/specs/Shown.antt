@@ -4,7 +4,7 @@ use Rattle.timetable.specs.Timetables.{Meaning}
 use Rattle.overlay.specs.Overlays.{pending_in}
 use Rattle.extract.specs.Progress.{Progress}
 use Rattle.extract.specs.Judging.{Standing}
-use Rattle.extract.specs.Seen.{seen, standing}
+use Rattle.extract.specs.Standings.{progress_with, standing}
 use Rattle.controller.specs.declared.controller.Controller.{Controller}
 
 -- its store
@@ -21,7 +21,7 @@ count_of c = c.tally
 
 -- how far its open extract is read
 abbrev pub progress_in : {S : Type 0} → Controller S → Progress
-progress_in c = seen c.extract (pending_in c.overlay.pending)
+progress_in c = progress_with c.extract (pending_in c.overlay.pending)
 
 -- what a call is judged by
 abbrev pub standing_in : {S : Type 0} → (S → Meaning) → Controller S → Standing

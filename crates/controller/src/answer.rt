@@ -1,6 +1,6 @@
 // What a call answers.
 ghost use Rattle.std.specs.Prelude.{◌≡◌};
-ghost use Rattle.controller.specs.Ledger.{answered};
+ghost use Rattle.controller.specs.Ledger.{answer_of};
 
 use crate::fault::ExtractFault;
 use board::line::Line;
@@ -16,7 +16,7 @@ pub enum Answer {
 
 // The answer to a call that answers only that it was done.
 impl From<Result<(), ExtractFault>> for Answer {
-    ghost from_gives = { λ r a. a ≡ answered r };
+    ghost from_gives = { λ r a. a ≡ answer_of r };
 
     fn from(done: Result<(), ExtractFault>) -> Answer {
         match done {

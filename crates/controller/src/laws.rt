@@ -4,35 +4,29 @@ ghost use Rattle.controller.specs.Laws.{OverlayIsOfRows, PendingMayBeDone, Pendi
 /// The overlay's map is the store's with the transactions of the rows done in order, whatever the store.
 pub fn overlay_is_of_rows()
     ensures { OverlayIsOfRows }
-{
-}
+{}
 
 /// Each transaction of the rows, done in order, is one that the table of refusals lets through.
 pub fn pending_may_be_done()
     ensures { PendingMayBeDone }
-{
-}
+{}
 
 /// What the pending transactions add always fits the store when they are done in order.
 pub fn pending_fits()
     ensures { PendingFits }
-{
-}
+{}
 
 /// A table tells its uppermost line that holds, and nothing exactly when no line holds.
 pub fn uppermost_is_told()
     ensures { UppermostIsTold }
-{
-}
+{}
 
 /// A schedule is being read from its BS to its LT.
 pub fn read_from_bs_to_lt()
     ensures { ReadFromBsToLt }
-{
-}
+{}
 
 /// Kept calls stand in row order.
 pub fn calls_in_row_order()
     ensures { CallsInRowOrder }
-{
-}
+{}

@@ -2,13 +2,8 @@
 #![tactic(auto)]
 
 pub mod answer;
-pub mod asked;
-pub mod asking;
-pub mod calls;
-pub mod confirming;
 pub mod controller;
 pub mod fault;
-pub mod hearing;
 pub mod laws;
+pub mod questions;
 pub mod telling;
-pub mod turning;

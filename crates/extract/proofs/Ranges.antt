@@ -20,7 +20,7 @@ use Rattle.cif.specs.declared.refusal.ColumnFault.{ColumnFault}
 use Rattle.cif.specs.Refusals.{fault_at, formed, then}
 use Rattle.cif.specs.Fields.{transaction_of, uid_of, from_of, to_of, days_of, train_of, stp_of, running_in, change_in, runs_on, schedule_in}
 use Rattle.cif.proofs.Results.{ok_is, err_ok}
-use Rattle.extract.specs.Seen.{range_in}
+use Rattle.extract.specs.Standings.{range_in}
 
 -- digits after n write a number of so many places
 number_below : (n : ℕ) (cs : List ℕ) (x : ℕ) → number_after n cs ≡ Some x → x < (n + 1) * 10 ^ length cs

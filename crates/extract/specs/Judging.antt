@@ -1,5 +1,6 @@
 -- Why a row that was read is turned away.
-use Rattle.std.specs.Prelude.{◌≡◌, ℕ, Bool, true, false, cond, not, ◌&&◌, ◌||◌, List, [], ◌∷◌, ◌++◌, length, Some, None, Ok, Err, Result, nat_le}
+use Rattle.std.specs.Prelude.{◌≡◌, ℕ, Bool, true, false, cond, not, ◌&&◌, ◌||◌, List, [], ◌∷◌, ◌++◌, length, is_some, Some, None, Ok, Err, Result, nat_le}
+use Rattle.std.specs.Option.{option_map_or}
 use Rattle.std.specs.Str.{bytes_eq}
 use Rattle.forms.specs.declared.letters.Coverage.{Coverage}
 use Rattle.forms.specs.declared.letters.Coverage.TheVariants.{Full, Update}
@@ -9,7 +10,7 @@ use Rattle.cif.specs.declared.content.Change.{Change as Asked}
 use Rattle.cif.specs.declared.content.Change.TheVariants.{New as AsksNew}
 use Rattle.cif.specs.declared.content.Location.{Location}
 use Rattle.cif.specs.declared.content.Content.{Content}
-use Rattle.cif.specs.declared.content.Content.TheVariants.{Header, Schedule, Origin, Intermediate, Terminus}
+use Rattle.cif.specs.Contents.{header_of, basic_schedule_of, location_of}
 use Rattle.cif.specs.declared.identity.Identity.{Identity}
 use Rattle.cif.specs.declared.identity.Identity.TheVariants.{Trailer, Header as IsHeader}
 use Rattle.cif.specs.declared.refusal.Refusal.TheVariants.{OutOfPlace, ReferenceMismatch, KeyPresent, KeyAbsent, TooManyRows, StoreFull}
@@ -53,8 +54,7 @@ mismatches in_force h =
 
 -- an HD whose references do not fit
 abbrev pub references_fail : Standing → Content → Bool
-references_fail s (Header h) = mismatches s.reference h
-references_fail s _ = false
+references_fail s c = option_map_or (mismatches s.reference) (header_of c) false
 
 -- a BS asks for a new schedule, N
 abbrev pub asks_new : Asked → Bool
@@ -63,13 +63,11 @@ asks_new _ = false
 
 -- a BS with N that passes a test
 abbrev pub is_new_with : (BasicSchedule → Bool) → Content → Bool
-is_new_with test (Schedule b) = asks_new b.change && test b
-is_new_with test _ = false
+is_new_with test c = option_map_or (λ b. asks_new b.change && test b) (basic_schedule_of c) false
 
 -- a BS with R or D that passes a test
 abbrev pub is_old_with : (BasicSchedule → Bool) → Content → Bool
-is_old_with test (Schedule b) = not (asks_new b.change) && test b
-is_old_with test _ = false
+is_old_with test c = option_map_or (λ b. not (asks_new b.change) && test b) (basic_schedule_of c) false
 
 -- the key of a BS is in the overlay
 abbrev pub is_there : Standing → BasicSchedule → Bool
@@ -77,15 +75,11 @@ is_there s b = has_key (overlay_in s).map (key_in b)
 
 -- a location is judged by the schedule that is being read: a 49th kept call, a third kept call at one TIPLOC
 abbrev pub location_lines : Standing → Content → List TableLine
-location_lines s (Origin l) = bringing_lines s.extract.draft l
-location_lines s (Intermediate l) = bringing_lines s.extract.draft l
-location_lines s (Terminus l) = bringing_lines s.extract.draft l
-location_lines s _ = []
+location_lines s c = option_map_or (bringing_lines s.extract.draft) (location_of c) []
 
 -- a BS comes after 32 transactions
 abbrev pub past_transactions : Standing → Content → Bool
-past_transactions s (Schedule b) = nat_le 32 (length s.extract.changes)
-past_transactions s _ = false
+past_transactions s c = is_some (basic_schedule_of c) && nat_le 32 (length s.extract.changes)
 
 -- 9,999 rows are taken and this is not ZZ
 abbrev pub past_rows : Standing → Content → Bool
@@ -120,38 +114,38 @@ content_lines s c =
     ∷ [])
 
 -- a value, unless a line of a table holds: the uppermost is told
-abbrev pub judged : {X : Type 0} → List TableLine → X → Result X ColumnFault
-judged ls x = elim (uppermost ls) [ Some f ↦ Err f | None ↦ Ok x ]
+abbrev pub value_unless : {X : Type 0} → List TableLine → X → Result X ColumnFault
+value_unless ls x = elim (uppermost ls) [ Some f ↦ Err f | None ↦ Ok x ]
 
 -- a row that was read is taken where no line holds
-abbrev pub admitted : Standing → Content → Result Progress ColumnFault
-admitted s c = judged (content_lines s c) (after s.extract c)
+abbrev pub verdict_on : Standing → Content → Result Progress ColumnFault
+verdict_on s c = value_unless (content_lines s c) (after s.extract c)
 
 -- a row that is out of place is turned away, then one whose fields lack their form, then one for which a line holds
-abbrev pub taken_unless : Bool → Standing → Identity → List ℕ → Result Progress ColumnFault
-taken_unless misplaced s i row = cond misplaced (Err (fault_at OutOfPlace 1)) (then (content_in i row) (λ c. admitted s c))
+abbrev pub verdict_unless : Bool → Standing → Identity → List ℕ → Result Progress ColumnFault
+verdict_unless misplaced s i row = cond misplaced (Err (fault_at OutOfPlace 1)) (then (content_in i row) (λ c. verdict_on s c))
 
 -- to the call row a row is out of place where the stage does not take it; an HD is always out of place there
 abbrev pub is_misplaced : Stage → Identity → Bool
 is_misplaced stage i = is_identity i IsHeader || missing (next_stage stage i false)
 
 -- what the call row makes of a row of an identity
-abbrev pub taken_by : Standing → Identity → List ℕ → Result Progress ColumnFault
-taken_by s i row = taken_unless (is_misplaced s.extract.stage i) s i row
+abbrev pub row_verdict : Standing → Identity → List ℕ → Result Progress ColumnFault
+row_verdict s i row = verdict_unless (is_misplaced s.extract.stage i) s i row
 
 -- to the call open only an HD when idle is in place
 abbrev pub is_no_opening : Stage → Identity → Bool
 is_no_opening stage i = not (is_stage stage Idle && is_identity i IsHeader)
 
 -- what the call open makes of a row of an identity
-abbrev pub opened_by : Standing → Identity → List ℕ → Result Progress ColumnFault
-opened_by s i row = taken_unless (is_no_opening s.extract.stage i) s i row
+abbrev pub open_verdict : Standing → Identity → List ℕ → Result Progress ColumnFault
+open_verdict s i row = verdict_unless (is_no_opening s.extract.stage i) s i row
 
 -- abandon has nothing to drop when idle
 abbrev pub idle_lines : Stage → List TableLine
 idle_lines stage = line OutOfPlace 0 (is_stage stage Idle) ∷ []
 
 -- a call did what the rule says: the extract is what it gives, or it tells the rule's fault
-abbrev pub Told : {X E : Type 0} → X → Result X E → Result (Unit {0}) E → Type 0
-Told after rule (Ok u) = rule ≡ Ok after
-Told after rule (Err e) = rule ≡ Err e
+abbrev pub GoesBy : {X E : Type 0} → X → Result X E → Result (Unit {0}) E → Type 0
+GoesBy after rule (Ok u) = rule ≡ Ok after
+GoesBy after rule (Err e) = rule ≡ Err e

@@ -1,4 +1,4 @@
 pub mod Stages
 pub mod Progress
 pub mod Judging
-pub mod Seen
+pub mod Standings

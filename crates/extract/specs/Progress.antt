@@ -1,6 +1,6 @@
 -- How far an extract is read, by its rows.
 use Rattle.std.specs.Prelude.{ℕ, ◌+◌, Bool, true, false, cond, List, [], ◌∷◌, ◌++◌, Ok, Err, fold}
-use Rattle.std.specs.Option.{unwrap_or}
+use Rattle.std.specs.Option.{unwrap_or, option_map_or}
 use Rattle.cif.specs.declared.content.BasicSchedule.{BasicSchedule}
 use Rattle.cif.specs.declared.content.Change.{Change as Asked}
 use Rattle.cif.specs.declared.content.Change.TheVariants.{New as AsksNew, Revise as AsksRevise, Delete as AsksDelete}
@@ -10,6 +10,7 @@ use Rattle.cif.specs.declared.content.Content.{Content}
 use Rattle.cif.specs.declared.content.Content.TheVariants.{Header, Schedule, Operator, Origin, Intermediate, Terminus, Unread}
 use Rattle.cif.specs.declared.identity.Identity.{Identity}
 use Rattle.cif.specs.declared.identity.Identity.TheVariants.{Header as IsHeader, BasicSchedule as IsSchedule, BasicExtra as IsExtra, Origin as IsOrigin, Intermediate as IsIntermediate, Terminus as IsTerminus}
+use Rattle.cif.specs.Contents.{header_of, basic_schedule_of}
 use Rattle.cif.specs.Reading.{read_in}
 use Rattle.schedule.specs.declared.key.Key.{Key}
 use Rattle.schedule.specs.declared.record.Record.{Record}
@@ -59,8 +60,7 @@ is_brief b = cond (is_deletion b.change) true (is_cancellation b.stp)
 
 -- whether a row is such a BS
 abbrev pub brief_in : Content → Bool
-brief_in (Schedule b) = is_brief b
-brief_in _ = false
+brief_in c = option_map_or is_brief (basic_schedule_of c) false
 
 -- the identity of a row, by what it holds
 abbrev pub identity_for : Content → Identity
@@ -74,8 +74,7 @@ identity_for (Unread i) = i
 
 -- the file reference after a row: an HD brings it
 abbrev pub current_after : Progress → Content → List ℕ
-current_after p (Header h) = h.current
-current_after p _ = p.current
+current_after p c = option_map_or (λ h. h.current) (header_of c) p.current
 
 -- the transaction that is being read, after a row: a BS begins it, a BX names the operator, LO and LI may add a call
 abbrev pub draft_after : Progress → Content → Change

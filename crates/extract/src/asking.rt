@@ -10,7 +10,7 @@ ghost use Rattle.timetable.specs.Laws.{has_key};
 ghost use Rattle.overlay.specs.Overlays.{overlay_of, pending_in};
 ghost use Rattle.extract.specs.Progress.{key_in, asked_by, is_brief};
 ghost use Rattle.extract.specs.Judging.{content_lines, room_lines, call_row_lines, change_lines};
-ghost use Rattle.extract.specs.Seen.{standing, range_in};
+ghost use Rattle.extract.specs.Standings.{standing, range_in};
 
 use crate::extract::Extract;
 use cif::content::{BasicSchedule, Change, Location, Running};
@@ -46,10 +46,8 @@ pub(crate) fn is_brief(b: &BasicSchedule) -> bool
 
 // The schedule that a BS row begins, if it is in range.
 fn begun(key: Key, days: Running) -> Option<Schedule>
-    ensures {
-        MatchOption result (in_range (begun_with key days.to.0 days.days days.train) ≡ false)
-            (λ s. s.plain ≡ begun_with key days.to.0 days.days days.train)
-    }
+    ensures { MatchOption result (in_range (begun_with key days.to.0 days.days days.train) ≡ false)
+        (λ s. s.plain ≡ begun_with key days.to.0 days.days days.train) }
 {
     let Running { to, days, train } = days;
     Schedule::begun(key, to.0, days, train)
@@ -57,10 +55,8 @@ fn begun(key: Key, days: Running) -> Option<Schedule>
 
 // The transaction that a BS row asks for, if it is in range.
 fn transaction_in(b: &BasicSchedule) -> Option<Transaction>
-    ensures {
-        MatchOption result (range_in b.now b.now.change ≡ false)
-            (λ t. plain_of t ≡ asked_by b.now b.now.change)
-    }
+    ensures { MatchOption result (range_in b.now b.now.change ≡ false)
+        (λ t. plain_of t ≡ asked_by b.now b.now.change) }
 {
     let key = key_in(b);
     match b.change {
@@ -84,14 +80,10 @@ impl Extract {
 
     // The transaction that is being read, with a location's call.
     pub(crate) fn called(&self, location: Location) -> Result<Transaction, ColumnFault>
-        ensures told {
-            fault_of result
-            ≡ uppermost (call_row_lines (plain_of self.now.draft) location self.now.taken)
-        }
-        ensures call {
-            IfOk result (λ t. plain_of t
-                ≡ bringing (λ s. with_call s location) (plain_of self.now.draft))
-        }
+        ensures told { fault_of result
+            ≡ uppermost (call_row_lines (plain_of self.now.draft) location self.now.taken) }
+        ensures call { IfOk result (λ t. plain_of t
+            ≡ bringing (λ s. with_call s location) (plain_of self.now.draft)) }
         ensures room { OnOk result (self.now.taken < 9999) }
     {
         let called = self.draft.with_call(location)?;
@@ -106,12 +98,10 @@ impl Extract {
         key: Key,
         new: bool,
     ) -> Result<(), ColumnFault>
-        ensures told {
-            fault_of result ≡ uppermost (change_lines new
-                (has_key (overlay_of S.meaning overlay.old).map key)
-                (nat_le 9999 self.now.taken || nat_le 32 (length (pending_in overlay.old.pending)))
-                (is_full (overlay_of S.meaning overlay.old)))
-        }
+        ensures told { fault_of result ≡ uppermost (change_lines new
+            (has_key (overlay_of S.meaning overlay.old).map key)
+            (nat_le 9999 self.now.taken || nat_le 32 (length (pending_in overlay.old.pending)))
+            (is_full (overlay_of S.meaning overlay.old))) }
         ensures rows { OnOk result (self.now.taken < 9999) }
         ensures room { OnOk result (length (pending_in overlay.old.pending) < 32) }
         ensures same { overlay.new ≡ overlay.old }
@@ -139,11 +129,9 @@ impl Extract {
         b: &BasicSchedule,
     ) -> Result<Transaction, ColumnFault>
         requires range { range_in b.now b.now.change ≡ true }
-        ensures told {
-            (reference : List ℕ) → fault_of result
+        ensures told { (reference : List ℕ) → fault_of result
             ≡ uppermost (content_lines
-                (standing S.meaning self.now overlay.old reference) (OfSchedule b.now))
-        }
+            (standing S.meaning self.now overlay.old reference) (OfSchedule b.now)) }
         ensures transaction { IfOk result (λ t. plain_of t ≡ asked_by b.now b.now.change) }
         ensures rows { OnOk result (self.now.taken < 9999) }
         ensures room { OnOk result (length (pending_in overlay.old.pending) < 32) }

@@ -1,5 +1,5 @@
 // How the open extract moves on with each kind of row.
-ghost use Rattle.std.specs.Prelude.{◌≡◌, ℕ, Bool, true, false, List, [], ◌∷◌, length, is_ok, OnOk, OnErr, if◌then◌else◌, nat_lt};
+ghost use Rattle.std.specs.Prelude.{◌≡◌, ℕ, ◌<◌, Bool, true, false, List, [], ◌∷◌, length, is_ok, OnOk, OnErr, if◌then◌else◌};
 ghost use Rattle.cif.specs.declared.content.Content.TheVariants.{Schedule as OfSchedule};
 ghost use Rattle.schedule.specs.declared.transaction.Change.{Change};
 ghost use Rattle.schedule.specs.Building.{with_operator, with_call, bringing};
@@ -7,9 +7,9 @@ ghost use Rattle.schedule.specs.Transactions.{plain_of};
 ghost use Rattle.overlay.specs.Overlays.{pending_in};
 ghost use Rattle.extract.specs.declared.stage.Stage.TheVariants.{Idle as IsIdle, Between as IsBetween, Extra as IsExtra, Running as IsRunning};
 ghost use Rattle.extract.specs.Stages.{has_room, is_stage};
-ghost use Rattle.extract.specs.Judging.{room_lines, call_row_lines, judged, admitted, Told};
+ghost use Rattle.extract.specs.Judging.{room_lines, call_row_lines, value_unless, verdict_on, GoesBy};
 ghost use Rattle.extract.specs.Progress.{ended_by};
-ghost use Rattle.extract.specs.Seen.{seen, standing, moved, range_in};
+ghost use Rattle.extract.specs.Standings.{progress_with, standing, next_progress, range_in};
 
 use crate::asking::is_brief;
 use crate::extract::Extract;
@@ -24,12 +24,10 @@ impl Extract {
     // A row of which nothing is read.
     pub(crate) fn pass(&mut self, next: Stage) -> Result<(), ColumnFault>
         requires open { is_stage next IsIdle ≡ false }
-        ensures told {
-            (cs : List Change) → Told (seen self.new cs)
-                (judged (room_lines self.old.taken)
-                    (moved (seen self.old cs) next (plain_of self.old.draft) []))
-                result
-        }
+        ensures told { (cs : List Change) → GoesBy (progress_with self.new cs)
+            (value_unless (room_lines self.old.taken)
+            (next_progress (progress_with self.old cs) next (plain_of self.old.draft) []))
+            result }
         ensures stage { self.new.stage ≡ (if is_ok result then next else self.old.stage) }
         ensures unchanged { OnErr result (self.new ≡ self.old) }
     {
@@ -41,13 +39,11 @@ impl Extract {
 
     // A BX row: the operator.
     pub(crate) fn take_operator(&mut self, operator: [u8; 2]) -> Result<(), ColumnFault>
-        ensures told {
-            (cs : List Change) → Told (seen self.new cs)
-                (judged (room_lines self.old.taken)
-                    (moved (seen self.old cs) IsExtra
-                        (bringing (λ s. with_operator s operator) (plain_of self.old.draft)) []))
-                result
-        }
+        ensures told { (cs : List Change) → GoesBy (progress_with self.new cs)
+            (value_unless (room_lines self.old.taken)
+            (next_progress (progress_with self.old cs) IsExtra
+            (bringing (λ s. with_operator s operator) (plain_of self.old.draft)) []))
+            result }
         ensures stage { self.new.stage ≡ (if is_ok result then IsExtra else self.old.stage) }
         ensures unchanged { OnErr result (self.new ≡ self.old) }
     {
@@ -60,13 +56,11 @@ impl Extract {
 
     // An LO or LI row: a call, if it is kept.
     pub(crate) fn take_call(&mut self, location: Location) -> Result<(), ColumnFault>
-        ensures told {
-            (cs : List Change) → Told (seen self.new cs)
-                (judged (call_row_lines (plain_of self.old.draft) location self.old.taken)
-                    (moved (seen self.old cs) IsRunning
-                        (bringing (λ s. with_call s location) (plain_of self.old.draft)) []))
-                result
-        }
+        ensures told { (cs : List Change) → GoesBy (progress_with self.new cs)
+            (value_unless (call_row_lines (plain_of self.old.draft) location self.old.taken)
+            (next_progress (progress_with self.old cs) IsRunning
+            (bringing (λ s. with_call s location) (plain_of self.old.draft)) []))
+            result }
         ensures stage { self.new.stage ≡ (if is_ok result then IsRunning else self.old.stage) }
         ensures unchanged { OnErr result (self.new ≡ self.old) }
     {
@@ -82,19 +76,19 @@ impl Extract {
         pending: &mut Pending,
         location: Location,
     ) -> Result<(), ColumnFault>
-        ensures told {
-            nat_lt (length (pending_in pending.old)) 32 ≡ true
-            → Told (seen self.new (pending_in pending.new))
-                (judged (call_row_lines (plain_of self.old.draft) location self.old.taken)
-                    (moved (seen self.old (pending_in pending.old)) IsBetween (plain_of self.old.draft)
-                        (ended_by location (plain_of self.old.draft) ∷ [])))
-                result
-        }
+        requires { length (pending_in pending.old) < 32 }
+        ensures told { GoesBy (progress_with self.new (pending_in pending.new))
+            (value_unless (call_row_lines (plain_of self.old.draft) location self.old.taken)
+            (next_progress (progress_with self.old (pending_in pending.old)) IsBetween
+            (plain_of self.old.draft)
+            (ended_by location (plain_of self.old.draft) ∷ [])))
+            result }
         ensures unchanged { OnErr result ((self.new ≡ self.old) × (pending.new ≡ pending.old)) }
-        ensures room { OnOk result (has_room self.new.stage (length (pending_in pending.new)) ≡ true) }
+        ensures room { OnOk result
+            (has_room self.new.stage (length (pending_in pending.new)) ≡ true) }
     {
         let ended = self.called(location)?.with_destination(location.tiploc);
-        let _ = pending.join(ended);
+        pending.join(ended);
         self.stage = Stage::Between;
         self.taken += 1;
         Ok(())
@@ -106,23 +100,20 @@ impl Extract {
         overlay: &mut Overlay<S>,
         b: &BasicSchedule,
     ) -> Result<(), ColumnFault>
+        requires stage { self.old.stage ≡ IsBetween }
         requires range { range_in b.now b.now.change ≡ true }
-        ensures told {
-            (reference : List ℕ) → self.old.stage ≡ IsBetween
-            → Told (seen self.new (pending_in overlay.new.pending))
-                (admitted (standing S.meaning self.old overlay.old reference) (OfSchedule b.now))
-                result
-        }
+        ensures told { (reference : List ℕ)
+            → GoesBy (progress_with self.new (pending_in overlay.new.pending))
+            (verdict_on (standing S.meaning self.old overlay.old reference) (OfSchedule b.now))
+            result }
         ensures unchanged { OnErr result ((self.new ≡ self.old) × (overlay.new ≡ overlay.old)) }
-        ensures room {
-            self.old.stage ≡ IsBetween
-            → OnOk result (has_room self.new.stage (length (pending_in overlay.new.pending)) ≡ true)
-        }
+        ensures room { OnOk result
+            (has_room self.new.stage (length (pending_in overlay.new.pending)) ≡ true) }
         ensures store { overlay.new.store ≡ overlay.old.store }
     {
         let asked = self.asked(overlay, b)?;
         if is_brief(b) {
-            let _ = overlay.pending.join(asked);
+            overlay.pending.join(asked);
             self.stage = Stage::Between;
             self.taken += 1;
             return Ok(());

@@ -5,8 +5,8 @@ ghost use Rattle.schedule.specs.declared.transaction.Change.{Change};
 ghost use Rattle.timetable.specs.Timetables.{Meaning};
 ghost use Rattle.extract.specs.Stages.{has_room};
 ghost use Rattle.extract.specs.Progress.{idle};
-ghost use Rattle.extract.specs.Judging.{mismatches, opened_by, idle_lines, Told};
-ghost use Rattle.extract.specs.Seen.{seen, judged_at};
+ghost use Rattle.extract.specs.Judging.{mismatches, open_verdict, idle_lines, GoesBy};
+ghost use Rattle.extract.specs.Standings.{progress_with, standing_at};
 
 use crate::extract::Extract;
 use crate::stage::Stage;
@@ -33,7 +33,7 @@ fn is_mismatch(header: &Header, reference: &[u8; 7]) -> bool
 impl Extract {
     /// No extract is open.
     pub fn new() -> Extract
-        ensures { seen result [] ≡ idle }
+        ensures { progress_with result [] ≡ idle }
     {
         Extract {
             stage: Stage::Idle,
@@ -43,6 +43,7 @@ impl Extract {
         }
     }
 
+    /// The stage of the open extract.
     pub fn stage(&self) -> Stage
         ensures { result ≡ self.now.stage }
     {
@@ -65,12 +66,12 @@ impl Extract {
 
     /// Opens an extract with its HD row over the reference in force, or says why it is turned away.
     pub fn open(&mut self, row: &Row, reference: &[u8; 7]) -> Result<(), ColumnFault>
-        ensures told {
-            (store : Meaning) (cs : List Change) → Told (seen self.new cs)
-                (opened_by (judged_at store self.old cs reference.now) row.now.identity row.now.bytes)
-                result
-        }
-        ensures room { (n : ℕ) → has_room self.old.stage n ≡ true → has_room self.new.stage n ≡ true }
+        ensures told { (store : Meaning) (cs : List Change) → GoesBy (progress_with self.new cs)
+            (open_verdict (standing_at store self.old cs reference.now)
+            row.now.identity row.now.bytes)
+            result }
+        ensures room { (n : ℕ) → has_room self.old.stage n ≡ true → has_room self.new.stage n
+            ≡ true }
         ensures unchanged { OnErr result (self.new ≡ self.old) }
     {
         match (self.stage, row.identity()) {
@@ -93,7 +94,7 @@ impl Extract {
     /// Drops the open extract, or says that there is none.
     pub fn abandon(&mut self) -> Result<(), ColumnFault>
         ensures told { fault_of result ≡ uppermost (idle_lines self.old.stage) }
-        ensures dropped { OnOk result (seen self.new [] ≡ idle) }
+        ensures dropped { OnOk result (progress_with self.new [] ≡ idle) }
         ensures unchanged { OnErr result (self.new ≡ self.old) }
     {
         if self.stage == Stage::Idle {

@@ -1,7 +1,7 @@
 //! Scripts of calls, done to controllers over both stores.
 ghost use Rattle.std.specs.Prelude.{◌≡◌, ℕ, ◌<◌, ◌↔◌, IsTrue, IfOk, Ok, length, map, slice_get};
 ghost use Rattle.board.specs.Boards.{lines_of};
-ghost use Rattle.runs.specs.Runs.{asked};
+ghost use Rattle.runs.specs.Runs.{call_meant};
 ghost use Rattle.scripts.specs.Histories.{told, histories_of};
 ghost use Rattle.scripts.specs.Steps.{call_of};
 
@@ -37,7 +37,8 @@ impl<'a> Side<'a> {
     // For the calls of a history.
     fn new(rt: &HostRuntime, history: &History, steps: &'a [Step]) -> Result<Side<'a>, AllocError>
         ensures lines { IfOk result (λ side. length side.lines.items ≡ history.now.slots) }
-        ensures calls { IfOk result (λ side. map asked side.calls.items ≡ map call_of steps.now) }
+        ensures calls { IfOk result
+            (λ side. map call_meant side.calls.items ≡ map call_of steps.now) }
         ensures answers { IfOk result (λ side. length side.answers.items ≡ length steps.now) }
     {
         let mut calls = Vec::new(rt.alloc());

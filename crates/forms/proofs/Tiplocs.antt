@@ -7,7 +7,7 @@ use Rattle.std.proofs.lemmas.List.Elements.{All-get_or, All-from_get_or}
 use Rattle.std.proofs.lemmas.List.Sums.{prefix_len-le-length, prefix_len_passes, prefix_len_is, AllPass-from_list_all, list_all-from_AllPass}
 use Rattle.forms.specs.Bytes.{is_name, is_blank}
 use Rattle.forms.specs.Forms.{is_tiploc}
-use Rattle.forms.specs.Laws.{Named, TiplocByPlaces}
+use Rattle.forms.specs.Laws.{HasNamesThenBlanks, TiplocByPlaces}
 
 -- bytes that are blank from a place on
 blank_after : (cs : List ℕ) (n k : ℕ) → list_all is_blank (drop n cs) ≡ true → n ≤ k → k < length cs → get_or cs k 0 ≡ 32
@@ -28,7 +28,7 @@ by_places = record { has = has; suffices = suffices }
     some [] h = absurd (true≢false (sym h))
     some (c ∷ cs) h = rw h (omega arith)
 
-    has : (cs : List ℕ) → is_tiploc cs ≡ true → (n : ℕ) × Named cs n
+    has : (cs : List ℕ) → is_tiploc cs ≡ true → (n : ℕ) × HasNamesThenBlanks cs n
     has cs h =
         let a = and_parts (eqb (length cs) 7) _ h in
         let b = and_parts (is_name (get_or cs 0 0)) _ a.1 in
@@ -44,7 +44,7 @@ by_places = record { has = has; suffices = suffices }
           },
         )
 
-    suffices : (cs : List ℕ) (n : ℕ) → Named cs n → is_tiploc cs ≡ true
+    suffices : (cs : List ℕ) (n : ℕ) → HasNamesThenBlanks cs n → is_tiploc cs ≡ true
     suffices cs n d =
         let seven = d.seven in
         let long : eqb (length cs) 7 ≡ true = ap (λ (m : ℕ). eqb m 7) seven in

@@ -1,5 +1,5 @@
 -- Bytes, and the alphabets that the fields of a row are written in.
-use Rattle.std.specs.Prelude.{ℕ, ◌-◌, Bool, cond, ◌&&◌, ◌||◌, List, take, drop, Some, None, Option, ◌==◌, nat_le, slice_index}
+use Rattle.std.specs.Prelude.{ℕ, ◌-◌, Bool, if◌then◌else◌, ◌&&◌, ◌||◌, List, take, drop, Some, None, Option, ◌==◌, nat_le, slice_index}
 use Rattle.forms.specs.declared.text.Alphabet.{Alphabet}
 use Rattle.forms.specs.declared.text.Alphabet.TheVariants.{Letters, Digits, Flags, Names, Labels, Blanks}
 
@@ -43,4 +43,4 @@ and_then None f = None
 
 -- a value, where a test is passed
 abbrev pub provided : {X : Type 0} → Bool → X → Option X
-provided b x = cond b (Some x) None
+provided b x = if b then Some x else None

@@ -4,7 +4,7 @@ use Rattle.forms.specs.Bytes.{is_name}
 use Rattle.forms.specs.Forms.{uid_in, date_in, time_in, is_tiploc}
 
 -- seven bytes, of which the first n, one to seven, are letters or digits, and all others blanks
-pub record Named (cs : List ℕ) (n : ℕ) : Type 0 where
+pub record HasNamesThenBlanks (cs : List ℕ) (n : ℕ) : Type 0 where
   pub seven : length cs ≡ 7
   pub some : 1 ≤ n
   pub within : n ≤ 7
@@ -13,8 +13,8 @@ pub record Named (cs : List ℕ) (n : ℕ) : Type 0 where
 
 -- a TIPLOC is one to seven letters or digits and then blanks
 pub record TiplocByPlaces : Type 0 where
-  pub has : (cs : List ℕ) → is_tiploc cs ≡ true → (n : ℕ) × Named cs n
-  pub suffices : (cs : List ℕ) (n : ℕ) → Named cs n → is_tiploc cs ≡ true
+  pub has : (cs : List ℕ) → is_tiploc cs ≡ true → (n : ℕ) × HasNamesThenBlanks cs n
+  pub suffices : (cs : List ℕ) (n : ℕ) → HasNamesThenBlanks cs n → is_tiploc cs ≡ true
 
 -- the worked cases
 pub record Worked : Type 0 where

@@ -1,5 +1,5 @@
 -- Fields of one letter, and the letter of each case.
-use Rattle.std.specs.Prelude.{ℕ, cond, List, [], ◌∷◌, Some, None, Option, Result, ◌==◌}
+use Rattle.std.specs.Prelude.{ℕ, if◌then◌else◌, List, [], ◌∷◌, Some, None, Option, Result, ◌==◌}
 use Rattle.std.specs.Option.{ok_or}
 use Rattle.forms.specs.declared.letters.UnknownLetter.{UnknownLetter}
 use Rattle.forms.specs.declared.letters.Stp.{Stp}
@@ -28,22 +28,22 @@ coverage_letter Full = 70
 coverage_letter Update = 85
 
 -- the case whose letter it is
-abbrev pub chosen : {X : Type 0} → (X → ℕ) → List X → ℕ → Option X
-chosen letter [] c = None
-chosen letter (x ∷ xs) c = cond (c == letter x) (Some x) (chosen letter xs c)
+abbrev pub case_of : {X : Type 0} → (X → ℕ) → List X → ℕ → Option X
+case_of letter [] c = None
+case_of letter (x ∷ xs) c = if c == letter x then Some x else case_of letter xs c
 
 -- the STP letter's case
 abbrev pub stp_in : ℕ → Option Stp
-stp_in c = chosen stp_letter (Cancellation ∷ ShortTerm ∷ Overlay ∷ Permanent ∷ []) c
+stp_in c = case_of stp_letter (Cancellation ∷ ShortTerm ∷ Overlay ∷ Permanent ∷ []) c
 
 -- the transaction letter's case
 abbrev pub transaction_in : ℕ → Option Transaction
-transaction_in c = chosen transaction_letter (New ∷ Revise ∷ Delete ∷ []) c
+transaction_in c = case_of transaction_letter (New ∷ Revise ∷ Delete ∷ []) c
 
 -- the case of the letter of a full extract or an update
 abbrev pub coverage_in : ℕ → Option Coverage
-coverage_in c = chosen coverage_letter (Full ∷ Update ∷ []) c
+coverage_in c = case_of coverage_letter (Full ∷ Update ∷ []) c
 
 -- the case that a letter names, or the letter that names none
-abbrev pub named_by : {X : Type 0} → Option X → ℕ → Result X UnknownLetter
-named_by found letter = ok_or found (record { 0 = letter })
+abbrev pub case_or_letter : {X : Type 0} → Option X → ℕ → Result X UnknownLetter
+case_or_letter found letter = ok_or found (record { 0 = letter })

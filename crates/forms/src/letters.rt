@@ -1,11 +1,11 @@
 // Fields of one letter.
 ghost use Rattle.std.specs.Prelude.{◌≡◌, Some};
-ghost use Rattle.forms.specs.Letters.{stp_letter, transaction_letter, coverage_letter, stp_in, transaction_in, coverage_in, named_by};
+ghost use Rattle.forms.specs.Letters.{stp_letter, transaction_letter, coverage_letter, stp_in, transaction_in, coverage_in, case_or_letter};
 
 use std::error::Error;
 use std::fmt;
 
-// A letter that stands for nothing in its field.
+/// A letter that stands for nothing in its field.
 #[derive(Clone, Copy, Debug, PartialEq, Eq)]
 pub struct UnknownLetter(pub char);
 
@@ -17,19 +17,23 @@ impl fmt::Display for UnknownLetter {
 
 impl Error for UnknownLetter {}
 
-// What kind of schedule it is, by its STP letter.
+/// What kind of schedule it is, by its STP letter.
 #[derive(Clone, Copy, Debug, PartialEq, Eq, PartialOrd, Ord)]
 pub enum Stp {
+    /// C: the train does not run on the days that the schedule covers.
     Cancellation = b'C' as isize,
+    /// N: a train that runs for a short term only.
     ShortTerm = b'N' as isize,
+    /// O: what holds in place of the permanent schedule on the days that it covers.
     Overlay = b'O' as isize,
+    /// P: the permanent schedule.
     Permanent = b'P' as isize,
 }
 
 impl TryFrom<char> for Stp {
     type Error = UnknownLetter;
 
-    ghost try_from_gives = { λ letter r. r ≡ named_by (stp_in letter) letter };
+    ghost try_from_gives = { λ letter r. r ≡ case_or_letter (stp_in letter) letter };
 
     fn try_from(letter: char) -> Result<Self, UnknownLetter> {
         match letter {
@@ -43,6 +47,7 @@ impl TryFrom<char> for Stp {
 }
 
 impl Stp {
+    /// The letter, in upper case.
     pub fn letter(self) -> u8
         ensures value { result ≡ stp_letter self }
         ensures named { stp_in result ≡ Some self }
@@ -51,18 +56,21 @@ impl Stp {
     }
 }
 
-// What is done with a schedule.
+/// What a BS row does with a schedule, by its transaction letter.
 #[derive(Clone, Copy, Debug, PartialEq, Eq)]
 pub enum Transaction {
+    /// N: it is new.
     New = b'N' as isize,
+    /// R: it takes the place of the one of its key.
     Revise = b'R' as isize,
+    /// D: it goes.
     Delete = b'D' as isize,
 }
 
 impl TryFrom<char> for Transaction {
     type Error = UnknownLetter;
 
-    ghost try_from_gives = { λ letter r. r ≡ named_by (transaction_in letter) letter };
+    ghost try_from_gives = { λ letter r. r ≡ case_or_letter (transaction_in letter) letter };
 
     fn try_from(letter: char) -> Result<Self, UnknownLetter> {
         match letter {
@@ -75,6 +83,7 @@ impl TryFrom<char> for Transaction {
 }
 
 impl Transaction {
+    /// The letter, in upper case.
     pub fn letter(self) -> u8
         ensures value { result ≡ transaction_letter self }
         ensures named { transaction_in result ≡ Some self }
@@ -83,17 +92,19 @@ impl Transaction {
     }
 }
 
-// How much an extract covers.
+/// How much an extract covers, by the letter of its HD row.
 #[derive(Clone, Copy, Debug, PartialEq, Eq)]
 pub enum Coverage {
+    /// F: a full timetable.
     Full = b'F' as isize,
+    /// U: what changes after the extract that it names as the last.
     Update = b'U' as isize,
 }
 
 impl TryFrom<char> for Coverage {
     type Error = UnknownLetter;
 
-    ghost try_from_gives = { λ letter r. r ≡ named_by (coverage_in letter) letter };
+    ghost try_from_gives = { λ letter r. r ≡ case_or_letter (coverage_in letter) letter };
 
     fn try_from(letter: char) -> Result<Self, UnknownLetter> {
         match letter {
@@ -105,6 +116,7 @@ impl TryFrom<char> for Coverage {
 }
 
 impl Coverage {
+    /// The letter, in upper case.
     pub fn letter(self) -> u8
         ensures value { result ≡ coverage_letter self }
         ensures named { coverage_in result ≡ Some self }

@@ -1,4 +1,5 @@
-// The forms of a row's fields. Each reader takes any bytes, and answers what they mean or that they lack the form.
+//! The forms of a row's fields. Each reader takes any bytes, and answers what they mean or that they lack the form.
+//! docs/rows.md has the rules.
 #![tactic(auto)]
 
 pub mod letters;

@@ -4,6 +4,9 @@ ghost use Rattle.forms.specs.Forms.{number_in, uid_in, years_on, date_in, time_i
 
 use crate::text::Alphabet;
 
+/// How many UID numbers there are: each UID's number is below this.
+pub const UIDS: u32 = 2_600_000;
+
 // The number that up to nine digits write.
 fn number(bytes: &[u8]) -> Option<u32>
     requires { length bytes.now ≤ 9 }
@@ -20,9 +23,11 @@ fn number(bytes: &[u8]) -> Option<u32>
     Some(n)
 }
 
-// A UID, a letter and five digits: the letter's place times 100,000, plus the digits' number.
+/// The number of a UID, which is six bytes, a letter and five digits: the letter's place, from 0, times 100,000, plus the
+/// digits' number. Any other bytes lack the form.
 pub fn uid(bytes: &[u8]) -> Option<u32>
-    ensures { result ≡ uid_in bytes.now }
+    ensures value { result ≡ uid_in bytes.now }
+    ensures below { IfSome result (λ n. n < UIDS) }
 {
     if bytes.len() != 6 || !Alphabet::Letters.has(bytes[0]) {
         return None;
@@ -39,7 +44,8 @@ fn years_on(yy: u32) -> u32
     if yy < 60 { yy + 40 } else { yy - 60 }
 }
 
-// A date, YYMMDD: its day number and weekday.
+/// The day number (1 January 1960 is 0) and the weekday (Monday is 0) of a date, which is six bytes, YYMMDD. YY from 60 to 99
+/// means 1960 to 1999, and 00 to 59 means 2000 to 2059. Bytes that name no day of the calendar lack the form.
 pub fn date(bytes: &[u8]) -> Option<(u16, u8)>
     ensures { result ≡ date_in bytes.now }
 {
@@ -52,7 +58,8 @@ pub fn date(bytes: &[u8]) -> Option<(u16, u8)>
     calendar::date(years_on(yy), month, day)
 }
 
-// A public time, HHMM: the minute of the day, or none at 0000.
+/// The minute of the day of a public time, which is four bytes, HHMM from 0000 to 2359; 0000 means that there is no public time.
+/// Any other bytes lack the form.
 pub fn time(bytes: &[u8]) -> Option<Option<u16>>
     ensures { result ≡ time_in bytes.now }
 {

@@ -15,7 +15,7 @@ fn names_then_blanks(bytes: &[u8]) -> bool
         .all(|b| Alphabet::Blanks.has(*b))
 }
 
-// A TIPLOC: one to seven letters or digits, then blanks up to seven bytes.
+/// A TIPLOC, as it stands: one to seven letters or digits, then blanks up to seven bytes. Any other bytes lack the form.
 pub fn tiploc(bytes: &[u8]) -> Option<[u8; 7]>
     ensures { result ≡ tiploc_in bytes.now }
 {
@@ -27,7 +27,7 @@ pub fn tiploc(bytes: &[u8]) -> Option<[u8; 7]>
     }
 }
 
-// A suffix: a blank or a digit.
+/// A suffix, as it stands: a blank or a digit. Any other byte lacks the form.
 pub fn suffix(b: u8) -> Option<u8>
     ensures { result ≡ suffix_in b }
 {
@@ -37,9 +37,7 @@ pub fn suffix(b: u8) -> Option<u8>
     }
 }
 
-// A TIPLOC is one to seven letters or digits and then blanks, place by place.
-pub fn tiploc_by_places() -> u8
+/// A TIPLOC is one to seven letters or digits and then blanks, place by place.
+pub fn tiploc_by_places()
     ensures { TiplocByPlaces }
-{
-    0
-}
+{}

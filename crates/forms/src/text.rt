@@ -4,18 +4,25 @@ ghost use Rattle.std.specs.List.{list_all};
 ghost use Rattle.forms.specs.Bytes.{allows};
 ghost use Rattle.forms.specs.Forms.{text_in, days_run_in, reference_in, last_reference_in};
 
-// The bytes that a text may have.
+/// The bytes that a text may have.
 #[derive(Clone, Copy, Debug, PartialEq, Eq)]
 pub enum Alphabet {
+    /// `A` to `Z`.
     Letters,
+    /// `0` to `9`.
     Digits,
+    /// `0` and `1`.
     Flags,
+    /// `A` to `Z` and `0` to `9`.
     Names,
+    /// `A` to `Z`, `0` to `9` and the blank.
     Labels,
+    /// The blank alone.
     Blanks,
 }
 
 impl Alphabet {
+    // Whether a byte is of this alphabet.
     pub(crate) fn has(self, b: u8) -> bool
         ensures { result ≡ allows self b }
     {
@@ -37,7 +44,7 @@ impl Alphabet {
     }
 }
 
-// The bytes themselves, where there are just N and all are of the alphabet.
+/// The bytes themselves, where there are just N and all are of the alphabet. Any others lack the form.
 pub fn text<const N: usize>(alphabet: Alphabet, bytes: &[u8]) -> Option<[u8; N]>
     ensures { result ≡ text_in N alphabet bytes.now }
 {
@@ -47,14 +54,14 @@ pub fn text<const N: usize>(alphabet: Alphabet, bytes: &[u8]) -> Option<[u8; N]>
     <[u8; N]>::try_from(bytes).ok()
 }
 
-// A file reference: seven letters or digits.
+/// A file reference, as it stands: seven letters or digits. Any other bytes lack the form.
 pub fn reference(bytes: &[u8]) -> Option<[u8; 7]>
     ensures { result ≡ reference_in bytes.now }
 {
     text::<7>(Alphabet::Names, bytes)
 }
 
-// The last file reference: as a file reference, or seven blanks.
+/// The last file reference, as it stands: a file reference, or seven blanks. Any other bytes lack the form.
 pub fn last_reference(bytes: &[u8]) -> Option<[u8; 7]>
     ensures { result ≡ last_reference_in bytes.now }
 {
@@ -64,7 +71,8 @@ pub fn last_reference(bytes: &[u8]) -> Option<[u8; 7]>
     }
 }
 
-// Days run: whether it runs on each day of the week, Monday first.
+/// Whether a train runs on each day of the week, Monday first: seven bytes, `1` where it runs and `0` where it does not. Any
+/// other bytes lack the form.
 pub fn days_run(bytes: &[u8]) -> Option<[bool; 7]>
     ensures { result ≡ days_run_in bytes.now }
 {

@@ -4,36 +4,36 @@ use Rattle.std.proofs.lemmas.List.{take_more, take_all}
 use Rattle.std.proofs.lemmas.Option.{slice_get-get_or}
 use Rattle.maps.specs.Orders.{Lawful}
 use Rattle.maps.specs.Maps.{lookup, gathered, apart, including, excluding}
-use Rattle.maps.specs.Places.{Passed, Found}
+use Rattle.maps.specs.Places.{NoneOfKey, StandsFirstAt}
 use Rattle.maps.proofs.Maps.{lookup_gathered, ascending_gathered, excluding_absent}
 use Rattle.maps.proofs.Heaped.{passed_lookup, found_lookup, length_gathered, gathered_push, apart_push, gathered_set, apart_set, gathered_swap, apart_swap}
 use Rattle.ordered.specs.Tables.{Put, Removed}
 
 module _ {E K : Type 0} (before : K → K → Bool) (key : E → K) (lawful : Lawful before) where
   -- the element at the place that a search found
-  pub found_get : (xs : List E) (i : ℕ) (k : K) → Found before key xs k i → slice_get xs i ≡ lookup before key xs k
+  pub found_get : (xs : List E) (i : ℕ) (k : K) → StandsFirstAt before key xs k i → slice_get xs i ≡ lookup before key xs k
   found_get [] i k h = let w = h.within in absurd (let z : ⊥ = omega arith in z)
   found_get (y ∷ ys) i k h = slice_get-get_or (y ∷ ys) i y h.within ∙ sym (found_lookup before key lawful (y ∷ ys) k i y h.within h.passed (h.is y))
 
-  some_there : (xs : List E) (k : K) (i : ℕ) → Found before key xs k i → is_some (lookup before key xs k) ≡ true
+  some_there : (xs : List E) (k : K) (i : ℕ) → StandsFirstAt before key xs k i → is_some (lookup before key xs k) ≡ true
   some_there [] k i h = let w = h.within in absurd (let z : ⊥ = omega arith in z)
   some_there (y ∷ ys) k i h = ap is_some (found_lookup before key lawful (y ∷ ys) k i y h.within h.passed (h.is y))
 
   -- an element in the place of the one of its key
-  pub put_found : (xs ys : List E) (x : E) (k : K) (i n : ℕ) → k ≡ key x → Found before key xs k i → ys ≡ set xs i x → Put before key (gathered before key xs) (gathered before key ys) n x true
+  pub put_found : (xs ys : List E) (x : E) (k : K) (i n : ℕ) → k ≡ key x → StandsFirstAt before key xs k i → ys ≡ set xs i x → Put before key (gathered before key xs) (gathered before key ys) n x true
   put_found xs ys x k i n of h e = record {
     done = sym (ap (λ b. b || nat_lt (length (gathered before key xs)) n) (ap is_some (lookup_gathered before key lawful xs (key x) ∙ ap (lookup before key xs) (sym of)) ∙ some_there xs k i h));
-    gives = ap (gathered before key) e ∙ gathered_set before key lawful xs i x x h.within (subst (λ (c : K). Passed before key xs c i) of h.passed) (h.is x ∙ of);
+    gives = ap (gathered before key) e ∙ gathered_set before key lawful xs i x x h.within (subst (λ (c : K). NoneOfKey before key xs c i) of h.passed) (h.is x ∙ of);
   }
 
-  pub found_apart : (xs ys : List E) (x : E) (k : K) (i : ℕ) → k ≡ key x → Found before key xs k i → ys ≡ set xs i x → apart before key xs ≡ true → apart before key ys ≡ true
-  found_apart xs ys x k i of h e a = ap (apart before key) e ∙ apart_set before key lawful xs i x x h.within (subst (λ (c : K). Passed before key xs c i) of h.passed) (h.is x ∙ of) a
+  pub found_apart : (xs ys : List E) (x : E) (k : K) (i : ℕ) → k ≡ key x → StandsFirstAt before key xs k i → ys ≡ set xs i x → apart before key xs ≡ true → apart before key ys ≡ true
+  found_apart xs ys x k i of h e a = ap (apart before key) e ∙ apart_set before key lawful xs i x x h.within (subst (λ (c : K). NoneOfKey before key xs c i) of h.passed) (h.is x ∙ of) a
 
-  absent : (xs : List E) (x : E) (k : K) → k ≡ key x → Passed before key xs k (length xs) → lookup before key xs (key x) ≡ None
+  absent : (xs : List E) (x : E) (k : K) → k ≡ key x → NoneOfKey before key xs k (length xs) → lookup before key xs (key x) ≡ None
   absent xs x k of h = ap (lookup before key xs) (sym of) ∙ passed_lookup before key lawful xs k h
 
   -- an element after the others, where there is room
-  pub put_passed : {T F : Type 0} (xs ys : List E) (x : E) (k : K) (n : ℕ) (r : Result T F) → apart before key xs ≡ true → k ≡ key x → Passed before key xs k (length xs) → is_ok r ≡ nat_lt (length xs) n → OnOk r (ys ≡ xs ++ x ∷ []) → OnErr r (ys ≡ xs) → Put before key (gathered before key xs) (gathered before key ys) n x (is_ok r)
+  pub put_passed : {T F : Type 0} (xs ys : List E) (x : E) (k : K) (n : ℕ) (r : Result T F) → apart before key xs ≡ true → k ≡ key x → NoneOfKey before key xs k (length xs) → is_ok r ≡ nat_lt (length xs) n → OnOk r (ys ≡ xs ++ x ∷ []) → OnErr r (ys ≡ xs) → Put before key (gathered before key xs) (gathered before key ys) n x (is_ok r)
   put_passed {T} {F} xs ys x k n r a of h d added kept = record {
     done =
         d
@@ -46,11 +46,11 @@ module _ {E K : Type 0} (before : K → K → Bool) (key : E → K) (lawful : La
       either (Ok t) p q = ap (gathered before key) p ∙ gathered_push before key lawful xs x (absent xs x k of h)
       either (Err e) p q = ap (gathered before key) q
 
-  pub passed_apart : {T F : Type 0} (xs ys : List E) (x : E) (k : K) (r : Result T F) → apart before key xs ≡ true → k ≡ key x → Passed before key xs k (length xs) → OnOk r (ys ≡ xs ++ x ∷ []) → OnErr r (ys ≡ xs) → apart before key ys ≡ true
+  pub passed_apart : {T F : Type 0} (xs ys : List E) (x : E) (k : K) (r : Result T F) → apart before key xs ≡ true → k ≡ key x → NoneOfKey before key xs k (length xs) → OnOk r (ys ≡ xs ++ x ∷ []) → OnErr r (ys ≡ xs) → apart before key ys ≡ true
   passed_apart xs ys x k (Ok t) a of h added kept = ap (apart before key) added ∙ apart_push before key lawful xs x (absent xs x k of h) a
   passed_apart xs ys x k (Err e) a of h added kept = ap (apart before key) kept ∙ a
 
-  pub removed_passed : (xs ys : List E) (k : K) → Passed before key xs k (length xs) → ys ≡ xs → Removed before key (gathered before key xs) (gathered before key ys) k false
+  pub removed_passed : (xs ys : List E) (k : K) → NoneOfKey before key xs k (length xs) → ys ≡ xs → Removed before key (gathered before key xs) (gathered before key ys) k false
   removed_passed xs ys k h e =
       let none = lookup_gathered before key lawful xs k ∙ passed_lookup before key lawful xs k h in
       record {
@@ -59,7 +59,7 @@ module _ {E K : Type 0} (before : K → K → Bool) (key : E → K) (lawful : La
       }
 
   -- the last element in the place of the one that goes
-  module _ (xs ys : List E) (k : K) (i : ℕ) (h : Found before key xs k i) (swapped : (d : E) → ys ≡ set (take (length xs - 1) xs) i (get_or xs (length xs - 1) d)) (a : apart before key xs ≡ true) where
+  module _ (xs ys : List E) (k : K) (i : ℕ) (h : StandsFirstAt before key xs k i) (swapped : (d : E) → ys ≡ set (take (length xs - 1) xs) i (get_or xs (length xs - 1) d)) (a : apart before key xs ≡ true) where
     abbrev front : List E
     front = take (length xs - 1) xs
 

@@ -1,4 +1,4 @@
-// Tables of keyed elements in any order, over slots that a caller lends.
+//! Tables of keyed elements in any order, over slots that a caller lends.
 #![tactic(auto)]
 
 pub mod loose;

@@ -2,7 +2,7 @@
 ghost use Rattle.std.specs.Prelude.{◌≡◌, ℕ, Bool, true, false, length, MatchOption};
 ghost use Rattle.maps.specs.Orders.{same};
 ghost use Rattle.maps.specs.Maps.{lower, ceiling, gathered};
-ghost use Rattle.maps.specs.Places.{Passed, Found};
+ghost use Rattle.maps.specs.Places.{NoneOfKey, StandsFirstAt};
 
 use ordered::keys::{KeyOrder, Keyed};
 
@@ -16,8 +16,8 @@ fn is_same<K: KeyOrder>(a: K, b: K) -> bool
 // The place of the first element of `key`, if there is one.
 pub(crate) fn scan<E: Keyed>(elements: &[E], key: E::Key) -> Option<usize>
     ensures { MatchOption result
-        (Passed E.Key.before E.keyed elements.now key (length elements.now))
-        (Found E.Key.before E.keyed elements.now key) }
+        (NoneOfKey E.Key.before E.keyed elements.now key (length elements.now))
+        (StandsFirstAt E.Key.before E.keyed elements.now key) }
 {
     elements
         .iter()

@@ -55,19 +55,19 @@ impl<E: Keyed> Mapped<E> for Loose<'_, E> {
         ensures held { result ≡ lookup E.Key.before E.keyed (items self.old.inner) key }
         ensures same { self.new ≡ self.old }
     {
-        match scan(self.inner.held(), key) {
+        match scan(self.inner.as_slice(), key) {
             Some(place) => self.inner.get(place),
             None => None,
         }
     }
 
     fn not_before(&mut self, probe: E::Key) -> Option<E::Key> {
-        lowest(self.inner.held(), probe)
+        lowest(self.inner.as_slice(), probe)
     }
 
     // A new element goes after the others.
     fn put(&mut self, entry: E) -> Result<(), Full> {
-        match scan(self.inner.held(), entry.key()) {
+        match scan(self.inner.as_slice(), entry.key()) {
             Some(place) => {
                 self.inner.set(place, entry);
                 Ok(())
@@ -78,7 +78,7 @@ impl<E: Keyed> Mapped<E> for Loose<'_, E> {
 
     // The last element takes the place of the one that goes.
     fn remove(&mut self, key: E::Key) -> bool {
-        match scan(self.inner.held(), key) {
+        match scan(self.inner.as_slice(), key) {
             Some(place) => {
                 take_out(&mut self.inner, place);
                 true

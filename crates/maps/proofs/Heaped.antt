@@ -2,7 +2,7 @@
 use Rattle.std.proofs.Common.{◌≡◌, ℕ, zero, suc, ◌<◌, Bool, true, false, cond, not, List, [], ◌∷◌, ◌++◌, length, get_or, set, is_some, Some, None, Option, sym, refl, ap, ◌∙◌, subst, inl, inr, arith}
 use Rattle.std.proofs.lemmas.Bool.{cases_Bool, both_ways, and_parts, and_from, not-true, true≢false}
 use Rattle.maps.specs.Orders.{Lawful, same}
-use Rattle.maps.specs.Places.{Passed}
+use Rattle.maps.specs.Places.{NoneOfKey}
 use Rattle.maps.specs.Maps.{lookup, including, excluding, gathered, apart}
 use Rattle.maps.proofs.Maps.{Stand, first, last, level, swap_cond, stand, same_first, same_last, same_level, same_is, some_none, lookup_including, lookup_excluding, same_maps, ascending_including, ascending_excluding, ascending_gathered, lookup_gathered}
 
@@ -11,11 +11,11 @@ none_from None h = refl
 none_from (Some x) h = absurd (true≢false h)
 
 module _ {E K : Type 0} (before : K → K → Bool) (key : E → K) (lawful : Lawful before) where
-  pub passed_lookup : (xs : List E) (k : K) → Passed before key xs k (length xs) → lookup before key xs k ≡ None
+  pub passed_lookup : (xs : List E) (k : K) → NoneOfKey before key xs k (length xs) → lookup before key xs k ≡ None
   passed_lookup [] k h = refl
   passed_lookup (y ∷ ys) k h = let p = h 0 y (omega arith) in rw p (passed_lookup ys k (λ j d l. h (suc j) d (omega arith)))
 
-  pub found_lookup : (xs : List E) (k : K) (i : ℕ) (d : E) → i < length xs → Passed before key xs k i → key (get_or xs i d) ≡ k → lookup before key xs k ≡ Some (get_or xs i d)
+  pub found_lookup : (xs : List E) (k : K) (i : ℕ) (d : E) → i < length xs → NoneOfKey before key xs k i → key (get_or xs i d) ≡ k → lookup before key xs k ≡ Some (get_or xs i d)
   found_lookup [] k i d l h e = absurd (let z : ⊥ = omega arith in z)
   found_lookup (y ∷ ys) k zero d l h e = let p = same_level before key lawful (key y) k e in rw p refl
   found_lookup (y ∷ ys) k (suc i) d l h e = let p = h 0 y (omega arith) in rw p (found_lookup ys k i d (omega arith) (λ j c m. h (suc j) c (omega arith)) e)
@@ -88,7 +88,7 @@ module _ {E K : Type 0} (before : K → K → Bool) (key : E → K) (lawful : La
       apart_from y (ys ++ x ∷ []) (lookup_push ys x (key y) rest ∙ ap (λ t. cond t (Some x) (lookup before key ys (key y))) g ∙ apart_none y ys a) (apart_push ys x rest (apart_rest y ys a))
 
   -- An entry in the place of the first of its key.
-  lookup_set : (xs : List E) (i : ℕ) (d x : E) (q : K) → i < length xs → Passed before key xs (key x) i → key (get_or xs i d) ≡ key x → lookup before key (set xs i x) q ≡ cond (same before (key x) q) (Some x) (lookup before key xs q)
+  lookup_set : (xs : List E) (i : ℕ) (d x : E) (q : K) → i < length xs → NoneOfKey before key xs (key x) i → key (get_or xs i d) ≡ key x → lookup before key (set xs i x) q ≡ cond (same before (key x) q) (Some x) (lookup before key xs q)
   lookup_set [] i d x q l h e = absurd (let z : ⊥ = omega arith in z)
   lookup_set (y ∷ ys) zero d x q l h e = Rattle.maps.proofs.Maps.shadow_cond (same before (key x) q) (same before (key y) q) (Some x) (Some y) (lookup before key ys q) (ap (λ c. same before c q) (sym e))
   lookup_set (y ∷ ys) (suc i) d x q l h e =
@@ -97,7 +97,7 @@ module _ {E K : Type 0} (before : K → K → Bool) (key : E → K) (lawful : La
       ∙ swap_cond (same before (key y) q) (same before (key x) q) (Some y) (Some x) (lookup before key ys q)
       (λ s t. both_ways (same before (key y) (key x)) f (same_level before key lawful (key y) (key x) (same_is before key lawful (key y) q s ∙ sym (same_is before key lawful (key x) q t))))
 
-  pub gathered_set : (xs : List E) (i : ℕ) (d x : E) → i < length xs → Passed before key xs (key x) i → key (get_or xs i d) ≡ key x → gathered before key (set xs i x) ≡ including before key (gathered before key xs) x
+  pub gathered_set : (xs : List E) (i : ℕ) (d x : E) → i < length xs → NoneOfKey before key xs (key x) i → key (get_or xs i d) ≡ key x → gathered before key (set xs i x) ≡ including before key (gathered before key xs) x
   gathered_set xs i d x l h e =
       same_maps before key lawful (gathered before key (set xs i x)) (including before key (gathered before key xs) x)
       (ascending_gathered before key lawful (set xs i x))
@@ -107,7 +107,7 @@ module _ {E K : Type 0} (before : K → K → Bool) (key : E → K) (lawful : La
       ∙ lookup_set xs i d x q l h e
       ∙ sym (lookup_including before key lawful (gathered before key xs) x q ∙ ap (λ t. cond (same before (key x) q) (Some x) t) (lookup_gathered before key lawful xs q)))
 
-  pub apart_set : (xs : List E) (i : ℕ) (d x : E) → i < length xs → Passed before key xs (key x) i → key (get_or xs i d) ≡ key x → apart before key xs ≡ true → apart before key (set xs i x) ≡ true
+  pub apart_set : (xs : List E) (i : ℕ) (d x : E) → i < length xs → NoneOfKey before key xs (key x) i → key (get_or xs i d) ≡ key x → apart before key xs ≡ true → apart before key (set xs i x) ≡ true
   apart_set [] i d x l h e a = refl
   apart_set (y ∷ ys) zero d x l h e a = apart_from x ys (subst (λ (c : K). lookup before key ys c ≡ None) e (apart_none y ys a)) (apart_rest y ys a)
   apart_set (y ∷ ys) (suc i) d x l h e a =

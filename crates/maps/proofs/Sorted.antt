@@ -4,7 +4,7 @@ use Rattle.std.specs.List.{insert, remove}
 use Rattle.std.proofs.lemmas.List.{get_or-take, length-take-le}
 use Rattle.std.proofs.lemmas.Bool.{and_parts}
 use Rattle.maps.specs.Orders.{Lawful}
-use Rattle.maps.specs.Places.{Ascends, Under, Hit, Miss}
+use Rattle.maps.specs.Places.{Ascends, AllBelow, StandsAt, BelongsAt}
 use Rattle.maps.specs.Maps.{after, ascending, lookup, including, excluding, ceiling}
 use Rattle.maps.proofs.Maps.{same_first, same_level, lookup_after}
 
@@ -30,17 +30,17 @@ ascends_front before key xs n fits a i j d l m =
     rw (← e, ← f) h
 
 module _ {E K : Type 0} (before : K → K → Bool) (key : E → K) where
-  under_tail : (y : E) (ys : List E) (k : K) (i : ℕ) → Under before key (y ∷ ys) k (suc i) → Under before key ys k i
+  under_tail : (y : E) (ys : List E) (k : K) (i : ℕ) → AllBelow before key (y ∷ ys) k (suc i) → AllBelow before key ys k i
   under_tail y ys k i u j d l = u (suc j) d (omega arith)
 
-  hit_tail : (y : E) (ys : List E) (k : K) (i : ℕ) → Hit before key (y ∷ ys) k (suc i) → Hit before key ys k i
+  hit_tail : (y : E) (ys : List E) (k : K) (i : ℕ) → StandsAt before key (y ∷ ys) k (suc i) → StandsAt before key ys k i
   hit_tail y ys k i h = let w = h.within in record { within = omega arith; under = under_tail y ys k i h.under; is = h.is }
 
-  miss_tail : (y : E) (ys : List E) (k : K) (i : ℕ) → Miss before key (y ∷ ys) k (suc i) → Miss before key ys k i
+  miss_tail : (y : E) (ys : List E) (k : K) (i : ℕ) → BelongsAt before key (y ∷ ys) k (suc i) → BelongsAt before key ys k i
   miss_tail y ys k i h = let w = h.within in record { within = omega arith; under = under_tail y ys k i h.under; past = λ d l. h.past d (omega arith) }
 
 module _ {E K : Type 0} (before : K → K → Bool) (key : E → K) (lawful : Lawful before) where
-  pub hit_including : (xs : List E) (i : ℕ) (x : E) → Hit before key xs (key x) i → including before key xs x ≡ set xs i x
+  pub hit_including : (xs : List E) (i : ℕ) (x : E) → StandsAt before key xs (key x) i → including before key xs x ≡ set xs i x
   hit_including [] i x h = let w = h.within in absurd (let z : ⊥ = omega arith in z)
   hit_including (y ∷ ys) zero x h =
       let e = h.is y in
@@ -49,7 +49,7 @@ module _ {E K : Type 0} (before : K → K → Bool) (key : E → K) (lawful : La
       rw (p, q) refl
   hit_including (y ∷ ys) (suc i) x h = let p = h.under 0 y (omega arith) in rw p (ap (λ t. y ∷ t) (hit_including ys i x (hit_tail before key y ys (key x) i h)))
 
-  pub miss_including : (xs : List E) (i : ℕ) (x : E) → Miss before key xs (key x) i → including before key xs x ≡ insert xs i x
+  pub miss_including : (xs : List E) (i : ℕ) (x : E) → BelongsAt before key xs (key x) i → including before key xs x ≡ insert xs i x
   miss_including [] zero x h = refl
   miss_including [] (suc i) x h = let w = h.within in absurd (let z : ⊥ = omega arith in z)
   miss_including (y ∷ ys) zero x h =
@@ -58,7 +58,7 @@ module _ {E K : Type 0} (before : K → K → Bool) (key : E → K) (lawful : La
       rw (p, q) refl
   miss_including (y ∷ ys) (suc i) x h = let p = h.under 0 y (omega arith) in rw p (ap (λ t. y ∷ t) (miss_including ys i x (miss_tail before key y ys (key x) i h)))
 
-  pub hit_excluding : (xs : List E) (i : ℕ) (k : K) → Hit before key xs k i → excluding before key xs k ≡ remove xs i
+  pub hit_excluding : (xs : List E) (i : ℕ) (k : K) → StandsAt before key xs k i → excluding before key xs k ≡ remove xs i
   hit_excluding [] i k h = let w = h.within in absurd (let z : ⊥ = omega arith in z)
   hit_excluding (y ∷ ys) zero k h =
       let e = h.is y in
@@ -67,7 +67,7 @@ module _ {E K : Type 0} (before : K → K → Bool) (key : E → K) (lawful : La
       rw (p, q) refl
   hit_excluding (y ∷ ys) (suc i) k h = let p = h.under 0 y (omega arith) in rw p (ap (λ t. y ∷ t) (hit_excluding ys i k (hit_tail before key y ys k i h)))
 
-  pub miss_excluding : (xs : List E) (i : ℕ) (k : K) → Miss before key xs k i → excluding before key xs k ≡ xs
+  pub miss_excluding : (xs : List E) (i : ℕ) (k : K) → BelongsAt before key xs k i → excluding before key xs k ≡ xs
   miss_excluding [] i k h = refl
   miss_excluding (y ∷ ys) zero k h =
       let q : before k (key y) ≡ true = h.past y (omega arith) in
@@ -75,22 +75,22 @@ module _ {E K : Type 0} (before : K → K → Bool) (key : E → K) (lawful : La
       rw (p, q) refl
   miss_excluding (y ∷ ys) (suc i) k h = let p = h.under 0 y (omega arith) in rw p (ap (λ t. y ∷ t) (miss_excluding ys i k (miss_tail before key y ys k i h)))
 
-  pub hit_lookup : (xs : List E) (i : ℕ) (k : K) (d : E) → Hit before key xs k i → lookup before key xs k ≡ Some (get_or xs i d)
+  pub hit_lookup : (xs : List E) (i : ℕ) (k : K) (d : E) → StandsAt before key xs k i → lookup before key xs k ≡ Some (get_or xs i d)
   hit_lookup [] i k d h = let w = h.within in absurd (let z : ⊥ = omega arith in z)
   hit_lookup (y ∷ ys) zero k d h = let p = same_level before key lawful (key y) k (h.is y) in rw p refl
   hit_lookup (y ∷ ys) (suc i) k d h = let p = same_first before key lawful (key y) k (h.under 0 y (omega arith)) in rw p (hit_lookup ys i k d (hit_tail before key y ys k i h))
 
-  pub miss_lookup : (xs : List E) (i : ℕ) (k : K) → ascending before key xs ≡ true → Miss before key xs k i → lookup before key xs k ≡ None
+  pub miss_lookup : (xs : List E) (i : ℕ) (k : K) → ascending before key xs ≡ true → BelongsAt before key xs k i → lookup before key xs k ≡ None
   miss_lookup [] i k a h = refl
   miss_lookup (y ∷ ys) zero k a h = lookup_after before key lawful k (y ∷ ys) (Rattle.maps.proofs.Maps.after_head before key lawful k y ys (h.past y (omega arith)) a)
   miss_lookup (y ∷ ys) (suc i) k a h = let p = same_first before key lawful (key y) k (h.under 0 y (omega arith)) in rw p (miss_lookup ys i k (and_parts (after before key (key y) ys) (ascending before key ys) a).1 (miss_tail before key y ys k i h))
 
-  pub ceiling_here : (xs : List E) (i : ℕ) (k : K) (d : E) → i < length xs → Under before key xs k i → before (key (get_or xs i d)) k ≡ false → ceiling before key xs k ≡ Some (key (get_or xs i d))
+  pub ceiling_here : (xs : List E) (i : ℕ) (k : K) (d : E) → i < length xs → AllBelow before key xs k i → before (key (get_or xs i d)) k ≡ false → ceiling before key xs k ≡ Some (key (get_or xs i d))
   ceiling_here [] i k d l u o = absurd (let z : ⊥ = omega arith in z)
   ceiling_here (y ∷ ys) zero k d l u o = rw o refl
   ceiling_here (y ∷ ys) (suc i) k d l u o = let p = u 0 y (omega arith) in rw p (ceiling_here ys i k d (omega arith) (under_tail before key y ys k i u) o)
 
-  pub ceiling_none : (xs : List E) (i : ℕ) (k : K) → length xs ≤ i → Under before key xs k i → ceiling before key xs k ≡ None
+  pub ceiling_none : (xs : List E) (i : ℕ) (k : K) → length xs ≤ i → AllBelow before key xs k i → ceiling before key xs k ≡ None
   ceiling_none [] i k l u = refl
   ceiling_none (y ∷ ys) zero k l u = absurd (let z : ⊥ = omega arith in z)
   ceiling_none (y ∷ ys) (suc i) k l u = let p = u 0 y (omega arith) in rw p (ceiling_none ys i k (omega arith) (under_tail before key y ys k i u))

@@ -1,5 +1,5 @@
 -- A finite map as the list of its elements, whose keys rise strictly. Two maps with the same look-ups are the same list.
-use Rattle.std.specs.Prelude.{Bool, true, cond, not, ◌&&◌, List, [], ◌∷◌, is_some, Some, None, Option}
+use Rattle.std.specs.Prelude.{Bool, true, if◌then◌else◌, not, ◌&&◌, List, [], ◌∷◌, is_some, Some, None, Option}
 use Rattle.maps.specs.Orders.{same}
 
 module _ {E K : Type 0} (before : K → K → Bool) (key : E → K) where
@@ -16,22 +16,24 @@ module _ {E K : Type 0} (before : K → K → Bool) (key : E → K) where
   -- the first element with the key k
   abbrev pub lookup : List E → K → Option E
   lookup [] k = None
-  lookup (y ∷ ys) k = cond (same before (key y) k) (Some y) (lookup ys k)
+  lookup (y ∷ ys) k = if same before (key y) k then Some y else lookup ys k
 
   -- the map with the element x, in place of one of its key if there is one
   abbrev pub including : List E → E → List E
   including [] x = x ∷ []
-  including (y ∷ ys) x = cond (before (key y) (key x)) (y ∷ including ys x) (cond (before (key x) (key y)) (x ∷ y ∷ ys) (x ∷ ys))
+  including (y ∷ ys) x =
+      if before (key y) (key x) then y ∷ including ys x else (if before (key x) (key y) then x ∷ y ∷ ys else x ∷ ys)
 
   -- the map with no element of the key k
   abbrev pub excluding : List E → K → List E
   excluding [] k = []
-  excluding (y ∷ ys) k = cond (before (key y) k) (y ∷ excluding ys k) (cond (before k (key y)) (y ∷ ys) ys)
+  excluding (y ∷ ys) k =
+      if before (key y) k then y ∷ excluding ys k else (if before k (key y) then y ∷ ys else ys)
 
   -- the first key that is not before k
   abbrev pub ceiling : List E → K → Option K
   ceiling [] k = None
-  ceiling (y ∷ ys) k = cond (before (key y) k) (ceiling ys k) (Some (key y))
+  ceiling (y ∷ ys) k = if before (key y) k then ceiling ys k else Some (key y)
 
   -- the map of elements in any order, where the first of a key counts
   abbrev pub gathered : List E → List E
@@ -46,4 +48,4 @@ module _ {E K : Type 0} (before : K → K → Bool) (key : E → K) where
 -- the lower of a key and another, if there is one
 abbrev pub lower : {K : Type 0} → (K → K → Bool) → K → Option K → Option K
 lower before a None = Some a
-lower before a (Some b) = cond (before b a) (Some b) (Some a)
+lower before a (Some b) = if before b a then Some b else Some a

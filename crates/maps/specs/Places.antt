@@ -8,31 +8,31 @@ module _ {E K : Type 0} (before : K → K → Bool) (key : E → K) where
   Ascends xs n = (i j : ℕ) (d : E) → i < j → j < n → before (key (slice_index_or xs i d)) (key (slice_index_or xs j d)) ≡ true
 
   -- every element before the place r has a key before k
-  abbrev pub Under : List E → K → ℕ → Type 0
-  Under xs k r = (i : ℕ) (d : E) → i < r → before (key (slice_index_or xs i d)) k ≡ true
+  abbrev pub AllBelow : List E → K → ℕ → Type 0
+  AllBelow xs k r = (i : ℕ) (d : E) → i < r → before (key (slice_index_or xs i d)) k ≡ true
 
   -- no element from the place r to n has a key before k
-  abbrev pub Over : List E → K → ℕ → ℕ → Type 0
-  Over xs k r n = (i : ℕ) (d : E) → r ≤ i → i < n → before (key (slice_index_or xs i d)) k ≡ false
+  abbrev pub NoneBelow : List E → K → ℕ → ℕ → Type 0
+  NoneBelow xs k r n = (i : ℕ) (d : E) → r ≤ i → i < n → before (key (slice_index_or xs i d)) k ≡ false
 
   -- every one of the first n elements has another key than k
-  abbrev pub Passed : List E → K → ℕ → Type 0
-  Passed xs k n = (j : ℕ) (d : E) → j < n → same before (key (slice_index_or xs j d)) k ≡ false
+  abbrev pub NoneOfKey : List E → K → ℕ → Type 0
+  NoneOfKey xs k n = (j : ℕ) (d : E) → j < n → same before (key (slice_index_or xs j d)) k ≡ false
 
 -- the element of the key k stands at the place i, after lower keys
-pub record Hit {E K : Type 0} (before : K → K → Bool) (key : E → K) (xs : List E) (k : K) (i : ℕ) : Type 0 where
+pub record StandsAt {E K : Type 0} (before : K → K → Bool) (key : E → K) (xs : List E) (k : K) (i : ℕ) : Type 0 where
   pub within : i < length xs
-  pub under : Under before key xs k i
+  pub under : AllBelow before key xs k i
   pub is : (d : E) → key (slice_index_or xs i d) ≡ k
 
 -- there is no element of the key k, and its place would be i
-pub record Miss {E K : Type 0} (before : K → K → Bool) (key : E → K) (xs : List E) (k : K) (i : ℕ) : Type 0 where
+pub record BelongsAt {E K : Type 0} (before : K → K → Bool) (key : E → K) (xs : List E) (k : K) (i : ℕ) : Type 0 where
   pub within : i ≤ length xs
-  pub under : Under before key xs k i
+  pub under : AllBelow before key xs k i
   pub past : (d : E) → i < length xs → before k (key (slice_index_or xs i d)) ≡ true
 
 -- the first element of the key k stands at the place i, among elements in any order
-pub record Found {E K : Type 0} (before : K → K → Bool) (key : E → K) (xs : List E) (k : K) (i : ℕ) : Type 0 where
+pub record StandsFirstAt {E K : Type 0} (before : K → K → Bool) (key : E → K) (xs : List E) (k : K) (i : ℕ) : Type 0 where
   pub within : i < length xs
-  pub passed : Passed before key xs k i
+  pub passed : NoneOfKey before key xs k i
   pub is : (d : E) → key (slice_index_or xs i d) ≡ k

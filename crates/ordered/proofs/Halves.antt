@@ -4,7 +4,7 @@ use Rattle.std.proofs.lemmas.List.{get_or_default, get_or-take}
 use Rattle.std.proofs.lemmas.Bool.{cases_eq, cases_Bool, both_ways}
 use Rattle.maps.specs.Orders.{Lawful}
 use Rattle.maps.specs.Maps.{ascending}
-use Rattle.maps.specs.Places.{Ascends, Under, Over}
+use Rattle.maps.specs.Places.{Ascends, AllBelow, NoneBelow}
 use Rattle.maps.proofs.Sorted.{ascends_front}
 use Rattle.ordered.specs.declared.slots.Slots.{Slots}
 use Rattle.ordered.specs.Bounds.{IsLowerBound}
@@ -15,14 +15,14 @@ module _ {E K : Type 0} (before : K → K → Bool) (key : E → K) (lawful : La
   at_any : (b : Bool) → before (key (get_or xs m e)) k ≡ b → (d : E) → before (key (get_or xs m d)) k ≡ b
   at_any b h d = let l : m < length xs = omega arith in ap (λ x. before (key x) k) (get_or_default xs m d e l) ∙ h
 
-  pub under_more : before (key (get_or xs m e)) k ≡ true → Under before key xs k (m + 1)
+  pub under_more : before (key (get_or xs m e)) k ≡ true → AllBelow before key xs k (m + 1)
   under_more h i d l =
       ⊎_elim
       (λ same. subst (λ (j : ℕ). before (key (get_or xs j d)) k ≡ true) (sym same) (at_any true h d))
       (λ other. lawful.transitive (key (get_or xs i d)) (key (get_or xs m d)) k (rising i m d (omega arith) within) (at_any true h d))
       (cases_eq i m)
 
-  pub over_less : before (key (get_or xs m e)) k ≡ false → Over before key xs k m n
+  pub over_less : before (key (get_or xs m e)) k ≡ false → NoneBelow before key xs k m n
   over_less h i d l u =
       ⊎_elim
       (λ same. subst (λ (j : ℕ). before (key (get_or xs j d)) k ≡ false) (sym same) (at_any false h d))

@@ -1,5 +1,5 @@
 -- What a table of keyed elements does, by the elements that it holds.
-use Rattle.std.specs.Prelude.{◌≡◌, ℕ, Bool, cond, ◌||◌, List, length, take, drop, is_some, nat_lt}
+use Rattle.std.specs.Prelude.{◌≡◌, ℕ, Bool, if◌then◌else◌, ◌||◌, List, length, take, drop, is_some, nat_lt}
 use Rattle.maps.specs.Maps.{lookup, including, excluding}
 use Rattle.ordered.specs.declared.slots.Slots.{Slots}
 
@@ -15,7 +15,7 @@ module _ {E K : Type 0} (before : K → K → Bool) (key : E → K) where
   -- x is put in place of the element of its key, or added where there is room; r tells whether it was
   pub record Put (xs ys : List E) (n : ℕ) (x : E) (r : Bool) : Type 0 where
     pub done : r ≡ (is_some (lookup before key xs (key x)) || nat_lt (length xs) n)
-    pub gives : ys ≡ cond r (including before key xs x) xs
+    pub gives : ys ≡ (if r then including before key xs x else xs)
 
   -- the element of the key k is taken out; r tells whether there was one
   pub record Removed (xs ys : List E) (k : K) (r : Bool) : Type 0 where

@@ -1,4 +1,4 @@
-// Tables of keyed elements over slots that a caller lends.
+//! Tables of keyed elements over slots that a caller lends.
 #![tactic(auto)]
 
 pub mod halving;

@@ -2,7 +2,7 @@
 ghost use Rattle.std.specs.Prelude.{◌≡◌, ◌+◌, ◌-◌, ◌<◌, ◌≤◌, [], ◌∷◌, ◌++◌, length, nat_lt, is_ok, IsTrue, OnOk, OnErr, MatchResult, slice_get, slice_set};
 ghost use Rattle.std.specs.List.{insert, remove};
 ghost use Rattle.maps.specs.Maps.{ascending};
-ghost use Rattle.maps.specs.Places.{Hit, Miss};
+ghost use Rattle.maps.specs.Places.{StandsAt, BelongsAt};
 ghost use Rattle.ordered.specs.Bounds.{IsLowerBound};
 ghost use Rattle.ordered.specs.Tables.{items, room, RestKept};
 
@@ -123,8 +123,8 @@ impl<E: Keyed> Slots<'_, E> {
         ensures same { self.new ≡ self.old }
         ensures within { MatchResult result (λ i. i < self.old.len) (λ i. i ≤ self.old.len) }
         ensures place { IsTrue (ascending E.Key.before E.keyed (items self.old))
-            → MatchResult result (Hit E.Key.before E.keyed (items self.old) key)
-            (Miss E.Key.before E.keyed (items self.old) key) }
+            → MatchResult result (StandsAt E.Key.before E.keyed (items self.old) key)
+            (BelongsAt E.Key.before E.keyed (items self.old) key) }
     {
         let i = self.seek(key);
         match self.get(i) {

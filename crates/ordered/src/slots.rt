@@ -40,7 +40,7 @@ impl<E> Slots<'_, E> {
     }
 
     /// The elements that are held.
-    pub fn held(&self) -> &[E]
+    pub fn as_slice(&self) -> &[E]
         ensures { result.now ≡ items self.now }
     {
         &self.slots[..self.len]

@@ -1,5 +1,5 @@
 // What an ordered table can be asked, and how it changes.
-ghost use Rattle.std.specs.Prelude.{◌≡◌, [], length, slice_get};
+ghost use Rattle.std.specs.Prelude.{◌≡◌, [], length, Some, codes, slice_get};
 ghost use Rattle.ordered.specs.Tables.{items, room};
 ghost use Rattle.ordered.specs.Fits.{items_fit};
 
@@ -7,10 +7,22 @@ use crate::keys::{KeyOrder, Keyed};
 use crate::mapped::Mapped;
 use crate::ordered::Ordered;
 use crate::slots::Slots;
+use std::error::Error;
+use std::fmt;
 
 /// There is no room for one element more.
 #[derive(Clone, Copy, Debug, PartialEq, Eq)]
 pub struct Full;
+
+impl fmt::Display for Full {
+    ghost output = { λ _. Some (codes "there is no room for one more") };
+
+    fn fmt<W: fmt::Write>(&self, f: &mut fmt::Formatter<W>) -> fmt::Result {
+        f.write_str("there is no room for one more")
+    }
+}
+
+impl Error for Full {}
 
 impl<E: Keyed> Ordered<'_, E> {
     /// A table over `slots` that holds nothing, whatever they have in them.

@@ -1,4 +1,5 @@
--- The keys of the overlay, by the last transaction on each.
+-- The keys of the overlay, by the last transaction on each. It serves the proof of not-before alone: nobody needs it to believe what the
+-- overlay is.
 use Rattle.std.specs.Prelude.{Bool, true, false, not, ◌&&◌, List, is_some, Some, None, Option}
 use Rattle.schedule.specs.declared.key.Key.{Key}
 use Rattle.schedule.specs.declared.record.Record.{Record}

@@ -12,10 +12,9 @@ use timetable::{Store, Timetable};
 impl<S: Store> Timetable for Overlay<S> {
     ghost meaning = { overlay_of S.meaning };
 
-    ghost is_map = {
-        λ o. all_map (S.meaning o.store).map (pending_in o.pending) (S.Timetable.is_map o.store)
-            o.pending.lawful
-    };
+    ghost is_map = { λ o. all_map (S.meaning o.store).map (pending_in o.pending)
+        (S.Timetable.is_map o.store)
+        o.pending.lawful };
 
     fn count(&mut self) -> usize {
         count_after(&mut self.store, &self.pending.all())

@@ -1,10 +1,9 @@
 // How transactions become pending, and cease to be.
-ghost use Rattle.std.specs.Prelude.{◌≡◌, Bool, true, false, [], ◌∷◌, ◌++◌, ◌≤◌, take, length, is_ok, nat_lt};
+ghost use Rattle.std.specs.Prelude.{◌≡◌, [], ◌∷◌, ◌++◌, ◌<◌, ◌≤◌, take, length};
 ghost use Rattle.schedule.specs.Transactions.{plain_of};
 ghost use Rattle.overlay.specs.Overlays.{pending_in};
 
-use crate::pending::{Changes, MOST, Pending};
-use ordered::table::Full;
+use crate::pending::{Changes, Pending};
 use schedule::schedule::Schedule;
 use schedule::transaction::{Change, Transaction};
 
@@ -20,6 +19,7 @@ impl Pending {
         }
     }
 
+    /// What is pending, in the order in which it joined.
     pub fn as_slice(&self) -> &[Change]
         ensures { result.now ≡ pending_in self.now }
     {
@@ -35,25 +35,21 @@ impl Pending {
         }
     }
 
+    /// How many transactions are pending.
     pub fn len(&self) -> usize
         ensures { result ≡ length (pending_in self.now) }
     {
         self.as_slice().len()
     }
 
-    /// A transaction joins after the others, unless 32 are pending.
-    pub fn join(&mut self, transaction: Transaction) -> Result<(), Full>
-        ensures done { is_ok result ≡ nat_lt (length (pending_in self.old)) 32 }
-        ensures joined { is_ok result ≡ true → pending_in self.new ≡ pending_in self.old ++ plain_of transaction ∷ [] }
-        ensures unchanged { is_ok result ≡ false → self.new ≡ self.old }
+    /// A transaction joins after the others, of which there have to be fewer than 32.
+    pub fn join(&mut self, transaction: Transaction)
+        requires { length (pending_in self.old) < 32 }
+        ensures { pending_in self.new ≡ pending_in self.old ++ plain_of transaction ∷ [] }
     {
         let place = self.len;
-        if place >= MOST {
-            return Err(Full);
-        }
         self.slots[place] = transaction.into();
         self.len = place + 1;
-        Ok(())
     }
 
     /// Drops all that is pending.

@@ -54,7 +54,8 @@ fn takes_place(changes: &[Change], probe: Key, key: Key, best: Option<Key>) -> b
 
 // The least key from a probe on among those that the transactions set and others, of which `kept` is the least.
 pub(crate) fn least_set(changes: &[Change], probe: Key, kept: Option<Key>) -> Option<Key>
-    ensures { (test : Key → Bool) → LeastOf test probe kept → LeastOf (λ k. test k || is_set changes.now k) probe result }
+    ensures { (test : Key → Bool) → LeastOf test probe kept
+        → LeastOf (λ k. test k || is_set changes.now k) probe result }
 {
     let mut best = kept;
     for change in changes {

@@ -7,6 +7,7 @@ use schedule::transaction::Change;
 /// How many transactions can be pending.
 pub const MOST: usize = 32;
 
+/// Up to 32 transactions, as plain records, in the order in which they joined.
 #[derive(Clone, Copy)]
 pub struct Pending {
     pub(crate) slots: [Change; 32],

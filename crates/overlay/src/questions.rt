@@ -24,7 +24,8 @@ pub(crate) fn sets(change: &Change) -> bool
 // The schedule that a transaction leaves under its key.
 pub(crate) fn schedule_left(change: &Change) -> Option<Schedule>
     requires lawful { is_lawful change.now ≡ true }
-    ensures { MatchOption result (leaves change.now ≡ None) (λ s. leaves change.now ≡ Some s.plain) }
+    ensures { MatchOption result (leaves change.now ≡ None)
+        (λ s. leaves change.now ≡ Some s.plain) }
 {
     match change {
         Change::New(plain) | Change::Revise(plain) => Schedule::try_from(*plain).ok(),
@@ -34,7 +35,8 @@ pub(crate) fn schedule_left(change: &Change) -> Option<Schedule>
 
 // Whether a key is there after some transactions.
 pub(crate) fn has_after<T: Timetable>(timetable: &mut T, changes: &Changes<'_>, key: Key) -> bool
-    ensures value { result ≡ has_key (done_all (T.meaning timetable.old).map changes.now.list.now) key }
+    ensures value { result
+        ≡ has_key (done_all (T.meaning timetable.old).map changes.now.list.now) key }
     ensures same { timetable.new ≡ timetable.old }
 {
     match last_on(changes.list, key) {
@@ -50,12 +52,11 @@ pub(crate) fn find_after<T: Timetable>(
     key: Key,
     place: &mut Schedule,
 ) -> bool
-    ensures found { result ≡ has_key (done_all (T.meaning timetable.old).map changes.now.list.now) key }
-    ensures copied {
-        place.new.plain ≡ unwrap_or
-            (schedule_of (done_all (T.meaning timetable.old).map changes.now.list.now) key)
-            place.old.plain
-    }
+    ensures found { result
+        ≡ has_key (done_all (T.meaning timetable.old).map changes.now.list.now) key }
+    ensures copied { place.new.plain ≡ unwrap_or
+        (schedule_of (done_all (T.meaning timetable.old).map changes.now.list.now) key)
+        place.old.plain }
     ensures left { OnFalse result (place.new ≡ place.old) }
     ensures same { timetable.new ≡ timetable.old }
 {

@@ -37,10 +37,8 @@ fn settle_all<S: Store>(store: &mut S, changes: &Changes<'_>)
 impl<S: Store> Overlay<S> {
     /// Does what is pending to the store, in order, passing over what finds no room; then nothing is pending.
     pub fn settle(&mut self)
-        ensures store {
-            S.meaning self.new.store
-            ≡ after_tries (S.meaning self.old.store) (pending_in self.old.pending)
-        }
+        ensures store { S.meaning self.new.store
+            ≡ after_tries (S.meaning self.old.store) (pending_in self.old.pending) }
         ensures pending { pending_in self.new.pending ≡ [] }
     {
         settle_all(&mut self.store, &self.pending.all());

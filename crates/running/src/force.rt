@@ -60,11 +60,9 @@ impl Walk {
 
     // Looks at the schedule of a key, unless it begins after the day: the best is then that one, or as before.
     fn consider<T: Timetable>(&mut self, timetable: &mut T, key: Key, day: u16)
-        ensures best {
-            (h : Record) → schedule_of (T.meaning timetable.old).map key ≡ Some h
+        ensures best { (h : Record) → schedule_of (T.meaning timetable.old).map key ≡ Some h
             → record_in self.new.best
-            ≡ (if takes h day (record_in self.old.best) then Some h else record_in self.old.best)
-        }
+            ≡ (if takes h day (record_in self.old.best) then Some h else record_in self.old.best) }
         ensures same { timetable.new ≡ timetable.old }
     {
         if day < key.from {
@@ -78,11 +76,10 @@ impl Walk {
     /// Walks over a train from a key on, and answers the first key of the next train. From the train's first key on, the best is
     /// then the schedule in force on a day, if there is one.
     pub fn train<T: Timetable>(&mut self, timetable: &mut T, first: Key, day: u16) -> Option<Key>
-        ensures best {
-            IsFirst (T.meaning timetable.old).map first
-            → IsForceOf (T.meaning timetable.old).map first.uid day self.new.best
-        }
-        ensures next { result ≡ not_before (T.meaning timetable.old).map (first_of (first.uid + 1)) }
+        ensures best { IsFirst (T.meaning timetable.old).map first
+            → IsForceOf (T.meaning timetable.old).map first.uid day self.new.best }
+        ensures next { result
+            ≡ not_before (T.meaning timetable.old).map (first_of (first.uid + 1)) }
         ensures same { timetable.new ≡ timetable.old }
     {
         self.best = None;

@@ -4,5 +4,4 @@ ghost use Rattle.running.specs.Worked.{Worked};
 /// What some dates, UIDs and times come to, and which schedules of a train are in force in a worked week.
 pub fn worked_cases()
     ensures { Worked }
-{
-}
+{}

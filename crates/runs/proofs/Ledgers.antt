@@ -15,11 +15,11 @@ use Rattle.board.specs.Lines.{LinesFor}
 use Rattle.board.proofs.Boards.{board_one}
 use Rattle.board.proofs.Trains.{cancelled}
 use Rattle.controller.specs.Calls.{Call, Open, Row, Confirm, Abandon, Turn, Tell, Tally}
-use Rattle.controller.specs.Ledger.{Ledger, Entry, without_rows, stepped, written, confirmed_map}
+use Rattle.controller.specs.Ledger.{Ledger, Entry, without_rows, ledger_after, ledger_after_all, confirmed_map}
 use Rattle.runs.specs.Laws.{AbandonLeavesNoTrace, ShownIgnoresExtract, TwoOrdersOneMap, SameTrainsSameLines, CancelledNeverShown, NothingWithoutConfirm, reads_only, with_rows, confirms_nothing, SameConfirmed, ConfirmedCouldBeDone}
 
 -- an entry that only reads changes nothing but the rows
-step_reads : (ℓ : Ledger) (call : Call) (accepted : Bool) → reads_only (call, accepted) ≡ true → without_rows (stepped ℓ call accepted) ≡ without_rows ℓ
+step_reads : (ℓ : Ledger) (call : Call) (accepted : Bool) → reads_only (call, accepted) ≡ true → without_rows (ledger_after ℓ call accepted) ≡ without_rows ℓ
 step_reads ℓ call false h = refl
 step_reads ℓ (Open row) true h = refl
 step_reads ℓ (Row row) true h = refl
@@ -29,13 +29,13 @@ step_reads ℓ (Turn station day) true h = absurd (false≢true h)
 step_reads ℓ (Tell place) true h = refl
 step_reads ℓ Tally true h = refl
 
-all_read : (ℓ : Ledger) (entries : List Entry) → list_all reads_only entries ≡ true → without_rows (written ℓ entries) ≡ without_rows ℓ
+all_read : (ℓ : Ledger) (entries : List Entry) → list_all reads_only entries ≡ true → without_rows (ledger_after_all ℓ entries) ≡ without_rows ℓ
 all_read ℓ [] h = refl
-all_read ℓ (e ∷ es) h = let p = and_parts (reads_only e) (list_all reads_only es) h in all_read (stepped ℓ e.0 e.1) es p.1 ∙ step_reads ℓ e.0 e.1 p.0
+all_read ℓ (e ∷ es) h = let p = and_parts (reads_only e) (list_all reads_only es) h in all_read (ledger_after ℓ e.0 e.1) es p.1 ∙ step_reads ℓ e.0 e.1 p.0
 
 pub abandon_leaves : AbandonLeavesNoTrace
 abandon_leaves ℓ entries e h =
-    fold_push (λ (l : Ledger) (e : Entry). stepped l e.0 e.1) ℓ entries (Abandon, true)
+    fold_push (λ (l : Ledger) (e : Entry). ledger_after l e.0 e.1) ℓ entries (Abandon, true)
     ∙ (all_read ℓ entries h ∙ ap (with_rows ℓ) (sym e))
 
 -- no two lists of lines are those of one map at one station and day
@@ -65,7 +65,7 @@ kept : (ℓ : Ledger) (rows : List (List ℕ)) (shown : Option StationDay) → S
 kept ℓ rows shown = record { confirmed = refl; map = refl; tally = refl; reference = refl }
 
 -- an entry that is no accepted confirm changes nothing but the rows and what is shown
-step_keeps : (ℓ : Ledger) (call : Call) (accepted : Bool) → confirms_nothing (call, accepted) ≡ true → SameConfirmed ℓ (stepped ℓ call accepted)
+step_keeps : (ℓ : Ledger) (call : Call) (accepted : Bool) → confirms_nothing (call, accepted) ≡ true → SameConfirmed ℓ (ledger_after ℓ call accepted)
 step_keeps ℓ call false h = kept ℓ ℓ.rows ℓ.shown
 step_keeps ℓ (Open row) true h = kept ℓ (ℓ.rows ++ row ∷ []) ℓ.shown
 step_keeps ℓ (Row row) true h = kept ℓ (ℓ.rows ++ row ∷ []) ℓ.shown
@@ -80,7 +80,7 @@ nothing_confirmed ℓ [] h = kept ℓ ℓ.rows ℓ.shown
 nothing_confirmed ℓ (e ∷ es) h =
     let p = and_parts (confirms_nothing e) (list_all confirms_nothing es) h in
     let one = step_keeps ℓ e.0 e.1 p.0 in
-    let rest = nothing_confirmed (stepped ℓ e.0 e.1) es p.1 in
+    let rest = nothing_confirmed (ledger_after ℓ e.0 e.1) es p.1 in
     record {
       confirmed = rest.confirmed ∙ one.confirmed;
       map = rest.map ∙ one.map;

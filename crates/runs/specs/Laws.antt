@@ -15,14 +15,14 @@ use Rattle.board.specs.declared.display.StationDay.{StationDay}
 use Rattle.board.specs.declared.line.Line.{Line}
 use Rattle.board.specs.Lines.{On}
 use Rattle.controller.specs.Calls.{Call, Confirm, Abandon, Turn}
-use Rattle.controller.specs.Ledger.{Ledger, Entry, written, with_confirmed, confirmed_map, tally_of, LinesOf}
+use Rattle.controller.specs.Ledger.{Ledger, Entry, ledger_after_all, with_confirmed, confirmed_map, tally_of, LinesOf}
 use Rattle.controller.specs.Keeping.{State, KeepsTo, is_confirm}
 
 -- a refused call leaves no trace in any later ledger
 abbrev pub RefusedLeavesNoTrace : Type 0
 RefusedLeavesNoTrace =
     (ℓ : Ledger) (before after : List Entry) (call : Call)
-    → written ℓ (before ++ (call, false) ∷ after) ≡ written ℓ (before ++ after)
+    → ledger_after_all ℓ (before ++ (call, false) ∷ after) ≡ ledger_after_all ℓ (before ++ after)
 
 -- calls that, accepted, change nothing but the rows of the open extract: open, row, tell and tally
 abbrev pub changes_rows_alone : Call → Bool
@@ -37,7 +37,7 @@ reads_only (call, accepted) = not accepted || changes_rows_alone call
 
 -- an extract that is opened, read and abandoned leaves no trace
 abbrev pub AbandonLeavesNoTrace : Type 0
-AbandonLeavesNoTrace = (ℓ : Ledger) (entries : List Entry) → ℓ.rows ≡ [] → list_all reads_only entries ≡ true → written ℓ (entries ++ (Abandon, true) ∷ []) ≡ ℓ
+AbandonLeavesNoTrace = (ℓ : Ledger) (entries : List Entry) → ℓ.rows ≡ [] → list_all reads_only entries ≡ true → ledger_after_all ℓ (entries ++ (Abandon, true) ∷ []) ≡ ℓ
 
 -- the same ledger with other rows
 abbrev pub with_rows : Ledger → List (List ℕ) → Ledger
@@ -83,7 +83,7 @@ pub record SameConfirmed (ℓ k : Ledger) : Type 0 where
 
 -- the map, the tally and the reference change by confirmations alone
 abbrev pub NothingWithoutConfirm : Type 0
-NothingWithoutConfirm = (ℓ : Ledger) (entries : List Entry) → list_all confirms_nothing entries ≡ true → SameConfirmed ℓ (written ℓ entries)
+NothingWithoutConfirm = (ℓ : Ledger) (entries : List Entry) → list_all confirms_nothing entries ≡ true → SameConfirmed ℓ (ledger_after_all ℓ entries)
 
 -- a transaction that was confirmed could be done when its turn came: its schedule is one, N found its key absent and room, R and D found
 -- it there

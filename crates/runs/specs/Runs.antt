@@ -3,12 +3,12 @@ use Rattle.std.specs.Prelude.{◌≡◌, ℕ, ◌<◌, true, List, [], ◌∷◌
 use Rattle.timetable.specs.Timetables.{Meaning}
 use Rattle.extract.specs.Progress.{transactions_of}
 use Rattle.board.specs.declared.line.Line.{Line}
-use Rattle.board.specs.Strikes.{struck}
+use Rattle.board.specs.Strikes.{lines_without}
 use Rattle.overlay.specs.Permitted.{EachMayBeDone}
 use Rattle.overlay.specs.Laws.{of_train}
 use Rattle.controller.specs.declared.answer.Answer.{Answer}
 use Rattle.controller.specs.Calls.{Call, Open, Row, Confirm, Abandon, Turn, Tell, Tally}
-use Rattle.controller.specs.Ledger.{Ledger, new_ledger, stepped, Entry, written, LinesOf, AnswerOf, is_accepted, names}
+use Rattle.controller.specs.Ledger.{Ledger, new_ledger, ledger_after, Entry, ledger_after_all, LinesOf, AnswerOf, is_accepted, has_train}
 use Rattle.controller.specs.Keeping.{State, state_in, KeepsTo, is_confirm}
 use Rattle.runs.specs.declared.call.Call.{Call as Asked}
 use Rattle.runs.specs.declared.call.Call.TheVariants.{Open as AsksOpen, Row as AsksRow, Confirm as AsksConfirm, Abandon as AsksAbandon, Turn as AsksTurn, Tell as AsksTell, Tally as AsksTally}
@@ -17,14 +17,14 @@ use Rattle.runs.specs.declared.plan.Plan.{Plan}
 use Rattle.runs.specs.declared.plan.Ran.{Ran}
 
 -- a call as a value, by what it is given
-abbrev pub asked : Asked → Call
-asked (AsksOpen row) = Open row.now
-asked (AsksRow row) = Row row.now
-asked AsksConfirm = Confirm
-asked AsksAbandon = Abandon
-asked (AsksTurn station day) = Turn station.now day
-asked (AsksTell place) = Tell place
-asked AsksTally = Tally
+abbrev pub call_meant : Asked → Call
+call_meant (AsksOpen row) = Open row.now
+call_meant (AsksRow row) = Row row.now
+call_meant AsksConfirm = Confirm
+call_meant AsksAbandon = Abandon
+call_meant (AsksTurn station day) = Turn station.now day
+call_meant (AsksTell place) = Tell place
+call_meant AsksTally = Tally
 
 -- how an installation stands
 abbrev pub stands : {S : Type 0} → (S → Meaning) → Installation S → State
@@ -34,15 +34,15 @@ stands meaning i = state_in meaning i.controller i.board
 abbrev pub entries : List Asked → List Answer → List Entry
 entries [] answers = []
 entries (q ∷ qs) [] = []
-entries (q ∷ qs) (a ∷ rest) = (asked q, is_accepted a) ∷ entries qs rest
+entries (q ∷ qs) (a ∷ rest) = (call_meant q, is_accepted a) ∷ entries qs rest
 
 -- the ledger of the first k calls of a run
 abbrev pub ledger_at : List Asked → List Answer → ℕ → Ledger
-ledger_at calls answers k = written (new_ledger []) (take k (entries calls answers))
+ledger_at calls answers k = ledger_after_all (new_ledger []) (take k (entries calls answers))
 
 -- the ledger of a whole run
 abbrev pub ledger_of : List Asked → List Answer → Ledger
-ledger_of calls answers = written (new_ledger []) (entries calls answers)
+ledger_of calls answers = ledger_after_all (new_ledger []) (entries calls answers)
 
 -- one call of a run, by the ledger of the calls before it: its answer is the ledger's, there are the lines that the ledger gives before
 -- and after it, and around an accepted confirmation, with the lines of the trains that the extract names struck out, these are the
@@ -52,16 +52,16 @@ pub record ByLedger (capacity slots : ℕ) (ℓ : Ledger) (call : Call) (answer 
   pub before : List Line
   pub shown_before : LinesOf ℓ before
   pub after : List Line
-  pub shown_after : LinesOf (stepped ℓ call (is_accepted answer)) after
+  pub shown_after : LinesOf (ledger_after ℓ call (is_accepted answer)) after
   pub unnamed :
       is_confirm call ≡ true → is_accepted answer ≡ true
-      → struck (names (transactions_of ℓ.rows)) before ≡ struck (names (transactions_of ℓ.rows)) after
+      → lines_without (has_train (transactions_of ℓ.rows)) before ≡ lines_without (has_train (transactions_of ℓ.rows)) after
 
 -- each of the first n calls of a run goes by the ledger of the calls before it
 abbrev pub FirstCalls : ℕ → ℕ → List Asked → List Answer → ℕ → Type 0
 FirstCalls capacity slots calls answers n =
     (k : ℕ) (call : Asked) (answer : Answer) → k < n → slice_get calls k ≡ Some call → slice_get answers k ≡ Some answer
-    → ByLedger capacity slots (ledger_at calls answers k) (asked call) answer
+    → ByLedger capacity slots (ledger_at calls answers k) (call_meant call) answer
 
 -- a run: each call goes by the ledger of the calls before it, and at the end controller and board keep to the ledger of all of them:
 -- map, tally and lines are those that it works out afresh
@@ -85,7 +85,7 @@ abbrev pub RunOf : {S : Type 0} → (S → Meaning) → Plan S → Result (Ran S
 RunOf meaning p r =
     MatchResult r
     (λ ran. Suits meaning p
-        × Runs (meaning p.store).capacity (length p.slots.now) p.calls.now ran.answers.now (stands meaning ran.installation))
+    × Runs (meaning p.store).capacity (length p.slots.now) p.calls.now ran.answers.now (stands meaning ran.installation))
     (λ back. (back ≡ p) × (Suits meaning p → ⊥))
 
 -- two runs with the same confirmed transactions for each train, and boards that were last turned to the same station and day or never:

@@ -4,14 +4,14 @@ ghost use Rattle.std.specs.Bool.{OnFalse};
 ghost use Rattle.timetable.specs.Timetables.{IsWithinCapacity};
 ghost use Rattle.controller.specs.Ledger.{new_ledger, is_accepted};
 ghost use Rattle.controller.specs.Keeping.{KeepsTo, Obeys};
-ghost use Rattle.runs.specs.Runs.{asked, stands};
+ghost use Rattle.runs.specs.Runs.{call_meant, stands};
 
 use crate::call::Call;
 use board::display::Board;
 use board::line::Line;
 use controller::answer::Answer;
-use controller::asked::tell;
 use controller::controller::Controller;
+use controller::questions::tell;
 use timetable::Store;
 
 /// A controller, and the board that it is installed with.
@@ -24,13 +24,10 @@ pub struct Installation<'a, S> {
 impl<'a, S: Store> Installation<'a, S> {
     /// A new controller over a store, and a new board over line slots.
     pub fn new(store: S, slots: &'a mut [Line]) -> Installation<'a, S>
-        ensures keeps {
-            IsWithinCapacity (S.meaning store)
-            → KeepsTo (stands S.meaning result) (new_ledger (S.meaning store).map)
-        }
-        ensures capacity {
-            (stands S.meaning result).standing.store.capacity ≡ (S.meaning store).capacity
-        }
+        ensures keeps { IsWithinCapacity (S.meaning store)
+            → KeepsTo (stands S.meaning result) (new_ledger (S.meaning store).map) }
+        ensures capacity { (stands S.meaning result).standing.store.capacity
+            ≡ (S.meaning store).capacity }
         ensures slots { (stands S.meaning result).slots ≡ length slots.old }
     {
         Installation {
@@ -41,9 +38,8 @@ impl<'a, S: Store> Installation<'a, S> {
 
     /// Does one call, whichever it is. A refused call leaves controller and board as they were.
     pub fn call(&mut self, call: &Call<'_>) -> Answer
-        ensures obeys {
-            Obeys (stands S.meaning self.old) (stands S.meaning self.new) (asked call.now) result
-        }
+        ensures obeys { Obeys (stands S.meaning self.old) (stands S.meaning self.new)
+            (call_meant call.now) result }
         ensures unchanged { OnFalse (is_accepted result) (self.new ≡ self.old) }
     {
         match call {

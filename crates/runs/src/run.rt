@@ -37,9 +37,7 @@ pub fn run_both<'a, 'b, S: Store, T: Store>(
     Result<Ran<'a, S>, Plan<'a, S>>,
     Result<Ran<'b, T>, Plan<'b, T>>,
 )
-    ensures {
-        BothRuns S.meaning T.meaning left.entry right.entry result.0 result.1
-    }
+    ensures { BothRuns S.meaning T.meaning left.entry right.entry result.0 result.1 }
 {
     (run(left), run(right))
 }

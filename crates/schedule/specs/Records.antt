@@ -76,8 +76,8 @@ is_cancellation Cancellation = true
 is_cancellation _ = false
 
 -- a cancellation has no calls, and blanks for operator and destination
-abbrev pub bare_if_cancelled : Record → Bool
-bare_if_cancelled r =
+abbrev pub is_bare_if_cancelled : Record → Bool
+is_bare_if_cancelled r =
     if is_cancellation r.key.stp
     then r.count == 0 && (bytes_eq r.operator two_blanks && bytes_eq r.destination seven_blanks)
     else true
@@ -93,7 +93,7 @@ is_schedule r =
     in_range r
     && (nat_le r.count 48
     && (few_visits (kept_calls r)
-    && (list_all is_filler (drop r.count r.calls) && bare_if_cancelled r)))
+    && (list_all is_filler (drop r.count r.calls) && is_bare_if_cancelled r)))
 
 -- every record of a list is a schedule
 abbrev pub every_schedule : List Record → Bool

@@ -2,14 +2,16 @@
 ghost use Rattle.std.specs.Prelude.{◌≡◌, ◌≤◌, ◌&&◌, length, take, drop, IsTrue, IsFalse, MatchResult, nat_le};
 ghost use Rattle.std.specs.Str.{bytes_eq};
 ghost use Rattle.std.specs.List.{list_all};
-ghost use Rattle.schedule.specs.Records.{is_at, visits, few_visits, is_filler, bare_if_cancelled, is_schedule};
+ghost use Rattle.schedule.specs.Records.{is_at, visits, few_visits, is_filler, is_bare_if_cancelled, is_schedule};
 ghost use Rattle.schedule.specs.Schedules.{record_of};
 
 use crate::key::Key;
 use crate::record::{CALLS, Record};
 use crate::schedule::{NotASchedule, Schedule};
+use calendar::LAST_DAY;
 use cif::content::Location;
 use forms::letters::Stp;
+use forms::numbers::UIDS;
 
 /// Whether a call is at a TIPLOC, whatever its suffix.
 pub fn is_at(call: &Location, tiploc: &[u8; 7]) -> bool
@@ -67,8 +69,9 @@ fn are_kept_then_filled(calls: &[Location], count: usize) -> bool
 }
 
 impl Record {
+    // Whether a cancellation has no calls, and blanks for operator and destination.
     fn is_bare_if_cancelled(&self) -> bool
-        ensures { result ≡ bare_if_cancelled self.now }
+        ensures { result ≡ is_bare_if_cancelled self.now }
     {
         self.key.stp != Stp::Cancellation
             || self.count == 0 && self.operator == *b"  " && self.destination == *b"       "
@@ -79,11 +82,7 @@ impl Record {
         ensures { result ≡ is_schedule self.now }
     {
         let count = self.count as usize;
-        if self.key.uid >= 2_600_000
-            || self.key.from > self.to
-            || self.to > 36_524
-            || count > CALLS
-        {
+        if self.key.uid >= UIDS || self.key.from > self.to || self.to > LAST_DAY || count > CALLS {
             return false;
         }
         are_kept_then_filled(&self.calls, count) && self.is_bare_if_cancelled()

@@ -1,4 +1,4 @@
-// Schedules: their keys, the records that hold them, and what every schedule has.
+//! Schedules: their keys, the records that hold them, and what every schedule has.
 #![tactic(auto)]
 
 pub mod building;

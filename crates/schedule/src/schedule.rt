@@ -1,11 +1,13 @@
 // A record that was found to be a schedule.
-ghost use Rattle.std.specs.Prelude.{◌≡◌, true, IsTrue};
+ghost use Rattle.std.specs.Prelude.{◌≡◌, true, IsTrue, Some, codes};
 ghost use Rattle.schedule.specs.Records.{is_schedule, blank_record};
 
 use crate::key::Key;
 use crate::record::{CALLS, Record};
 use cif::content::Location;
 use forms::letters::Stp;
+use std::error::Error;
+use std::fmt;
 
 /// A schedule has the properties of every schedule that exists. It is passed by value or written whole, and never lies in a
 /// slot. docs/schedules.md has the rules.
@@ -82,3 +84,13 @@ impl From<Schedule> for Record {
 /// A record that was found to be no schedule.
 #[derive(Clone, Copy, Debug, PartialEq, Eq)]
 pub struct NotASchedule;
+
+impl fmt::Display for NotASchedule {
+    ghost output = { λ _. Some (codes "the record is not that of a schedule") };
+
+    fn fmt<W: fmt::Write>(&self, f: &mut fmt::Formatter<W>) -> fmt::Result {
+        f.write_str("the record is not that of a schedule")
+    }
+}
+
+impl Error for NotASchedule {}

@@ -93,6 +93,7 @@ impl<T: Mapped<Record>> Store for SlotStore<T> {
     ghost use Rattle.std.specs.Prelude.{is_ok, OnErr};
     ghost use Rattle.std.specs.Bool.{OnFalse};
     ghost use Rattle.ordered.specs.Tables.{RestKept};
+    ghost use Rattle.schedule.specs.Schedules.{record_of};
     ghost use Rattle.timetable.specs.Timetables.{IsWithinCapacity, PutsSchedule, RemovesKey};
     ghost use Rattle.stores.specs.Stores.{table_of, meaning_of};
 
@@ -101,29 +102,24 @@ impl<T: Mapped<Record>> Store for SlotStore<T> {
     }
 
     fn put(&mut self, schedule: Schedule) -> Result<(), Full>
-        ensures puts {
-            PutsSchedule (meaning_of T.Mapped.map T.Mapped.slots self.old)
-                (meaning_of T.Mapped.map T.Mapped.slots self.new) schedule.plain (is_ok result)
-        }
+        ensures puts { PutsSchedule (meaning_of T.Mapped.map T.Mapped.slots self.old)
+            (meaning_of T.Mapped.map T.Mapped.slots self.new) (record_of schedule)
+            (is_ok result) }
         ensures unchanged { OnErr result (self.new ≡ self.old) }
         ensures within { IsWithinCapacity (meaning_of T.Mapped.map T.Mapped.slots self.new) }
-        ensures rest {
-            RestKept (T.Mapped.slots (table_of self.old)) (T.Mapped.slots (table_of self.new))
-        }
+        ensures rest { RestKept (T.Mapped.slots (table_of self.old))
+            (T.Mapped.slots (table_of self.new)) }
     {
         self.table.put(schedule.into())
     }
 
     fn remove(&mut self, key: Key) -> bool
-        ensures removes {
-            RemovesKey (meaning_of T.Mapped.map T.Mapped.slots self.old)
-                (meaning_of T.Mapped.map T.Mapped.slots self.new) key result
-        }
+        ensures removes { RemovesKey (meaning_of T.Mapped.map T.Mapped.slots self.old)
+            (meaning_of T.Mapped.map T.Mapped.slots self.new) key result }
         ensures unchanged { OnFalse result (self.new ≡ self.old) }
         ensures within { IsWithinCapacity (meaning_of T.Mapped.map T.Mapped.slots self.new) }
-        ensures rest {
-            RestKept (T.Mapped.slots (table_of self.old)) (T.Mapped.slots (table_of self.new))
-        }
+        ensures rest { RestKept (T.Mapped.slots (table_of self.old))
+            (T.Mapped.slots (table_of self.new)) }
     {
         self.table.remove(key)
     }

@@ -10,26 +10,22 @@ use schedule::schedule::Schedule;
 /// Maps with the same schedule under every key are the same map.
 pub fn lookups_decide()
     ensures { LookupsDecide }
-{
-}
+{}
 
 /// Every key but the one that is put or removed keeps its schedule.
 pub fn others_keep()
     ensures { OthersKeep }
-{
-}
+{}
 
 /// Not-before answers the least key.
 pub fn not_before_is_least()
     ensures { NotBeforeIsLeast }
-{
-}
+{}
 
 // Puts a record's schedule, if it is one, into a store of any make.
 fn put_one<S: Store>(store: &mut S, plain: &Record) -> Result<(), Full>
-    ensures map {
-        OnOk result ((S.meaning store.new).map ≡ set_if_schedule (S.meaning store.old).map plain.now)
-    }
+    ensures map { OnOk result
+        ((S.meaning store.new).map ≡ set_if_schedule (S.meaning store.old).map plain.now) }
     ensures capacity { (S.meaning store.new).capacity ≡ (S.meaning store.old).capacity }
 {
     match Schedule::try_from(*plain) {
@@ -40,7 +36,8 @@ fn put_one<S: Store>(store: &mut S, plain: &Record) -> Result<(), Full>
 
 /// Puts those of the records that are schedules into a store of any make, up to the first that finds no room.
 pub fn put_all<S: Store>(store: &mut S, records: &[Record]) -> Result<(), Full>
-    ensures map { OnOk result ((S.meaning store.new).map ≡ set_all (S.meaning store.old).map records.now) }
+    ensures map { OnOk result
+        ((S.meaning store.new).map ≡ set_all (S.meaning store.old).map records.now) }
     ensures capacity { (S.meaning store.new).capacity ≡ (S.meaning store.old).capacity }
 {
     for plain in records {

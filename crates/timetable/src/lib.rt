@@ -4,6 +4,7 @@
 ghost use Rattle.std.specs.Prelude.{◌≡◌, ◌≤◌, Bool, true, false, length, is_some, is_ok, OnErr};
 ghost use Rattle.std.specs.Bool.{OnFalse};
 ghost use Rattle.std.specs.Option.{unwrap_or};
+ghost use Rattle.schedule.specs.Schedules.{record_of};
 ghost use Rattle.timetable.specs.Timetables.{Meaning, schedule_of, not_before, IsMap, IsWithinCapacity, PutsSchedule, RemovesKey};
 
 pub mod laws;
@@ -26,9 +27,8 @@ pub trait Timetable {
     /// Whether a key is there. Its schedule is copied to `place`, which is left as it was where the key is absent.
     fn find(&mut self, key: Key, place: &mut Schedule) -> bool
         ensures found { result ≡ is_some (schedule_of (meaning self.old).map key) }
-        ensures copied {
-            place.new.plain ≡ unwrap_or (schedule_of (meaning self.old).map key) place.old.plain
-        }
+        ensures copied { record_of place.new
+            ≡ unwrap_or (schedule_of (meaning self.old).map key) (record_of place.old) }
         ensures left { OnFalse result (place.new ≡ place.old) }
         ensures same { self.new ≡ self.old };
 
@@ -52,9 +52,9 @@ pub trait Store: Timetable {
 
     /// Sets the schedule of its key. It is refused, with no change, only where the key is absent and the count equals the capacity.
     fn put(&mut self, schedule: Schedule) -> Result<(), Full>
-        ensures puts {
-            PutsSchedule (Self.meaning self.old) (Self.meaning self.new) schedule.plain (is_ok result)
-        }
+        ensures puts { PutsSchedule (Self.meaning self.old) (Self.meaning self.new)
+            (record_of schedule)
+            (is_ok result) }
         ensures unchanged { OnErr result (self.new ≡ self.old) }
         ensures within { IsWithinCapacity (Self.meaning self.new) };
 

@@ -9,7 +9,7 @@ use Rattle.overlay.specs.Overlays.{pending_in}
 use Rattle.overlay.specs.Settling.{after_tries}
 use Rattle.overlay.proofs.Settled.{tries_capacity}
 use Rattle.extract.specs.Progress.{idle}
-use Rattle.extract.specs.Seen.{standing}
+use Rattle.extract.specs.Standings.{standing}
 use Rattle.extract.specs.declared.stage.Stage.TheVariants.{Complete}
 use Rattle.extract.specs.Stages.{is_stage}
 use Rattle.board.specs.Boards.{slots_of}

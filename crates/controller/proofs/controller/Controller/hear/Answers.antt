@@ -17,7 +17,7 @@ returns-in_err-beside-clause-told g c =
     let refused = beside_err c.take.result c.letters-letters.result c.in_err-beside.field-0.0 (sym c.beside-2.ensures ∙ c.in_err-beside.was) in
     let p = err_from_is_err_and c.from_residual-in_err-beside.result c.from_residual-in_err-beside.ensures.1 in
     let letters : letters_in c.args.bytes.now ≡ c.in_err-beside.field-0.0.1 = sym (ap letters_in made.0) ∙ sym c.letters-letters.ensures ∙ refused.1 in
-    told_err _ _ c.from_residual-in_err-beside.result p.0 p.1 (heard_err is_misplaced s c.args.bytes.now row.bytes row.identity _ c.take.result made.0 made.1 (c.take.ensures.told c.args.self.now.reference c.args.self.now.room) c.in_err-beside.field-0.0.0 refused.0 ∙ ap Err (ap (λ l. in_row l c.in_err-beside.field-0.0.0) letters ∙ sym p.2))
+    told_err _ _ c.from_residual-in_err-beside.result p.0 p.1 (heard_err is_misplaced s c.args.bytes.now row.bytes row.identity _ c.take.result made.0 made.1 (c.take.ensures.told c.args.self.now.reference) c.in_err-beside.field-0.0.0 refused.0 ∙ ap Err (ap (λ l. in_row l c.in_err-beside.field-0.0.0) letters ∙ sym p.2))
 
 pub returns-in_err-beside-clause-unchanged : goal.returns-in_err-beside-clause-unchanged
 returns-in_err-beside-clause-unchanged g c =
@@ -31,4 +31,4 @@ returns-clause-told g c =
     let s = standing_in g.S.Timetable.meaning c.args.self.now in
     let row = c.in_ok-row.row in
     let made = MatchResult-at_ok _ _ row (beside_ok c.check.result _ row (sym c.in_ok-row.ensures)) c.check.ensures.made in
-    heard_ok is_misplaced s c.args.bytes.now row.bytes row.identity _ c.take.result made.0 made.1 (c.take.ensures.told c.args.self.now.reference c.args.self.now.room) _ (beside_ok c.take.result c.letters-letters.result _ (sym c.beside-2.ensures ∙ c.in_ok-beside.was))
+    heard_ok is_misplaced s c.args.bytes.now row.bytes row.identity _ c.take.result made.0 made.1 (c.take.ensures.told c.args.self.now.reference) _ (beside_ok c.take.result c.letters-letters.result _ (sym c.beside-2.ensures ∙ c.in_ok-beside.was))

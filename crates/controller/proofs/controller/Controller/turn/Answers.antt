@@ -2,7 +2,7 @@ use Rattle.std.proofs.Common.{rules, ◌≡◌, sym, refl, ap, ◌∙◌}
 use Rattle.std.proofs.lemmas.Bool.{true≢false}
 use Rattle.cif.specs.Refusals.{fault_of}
 use Rattle.extract.specs.Judging.{Standing}
-use Rattle.extract.specs.Seen.{standing}
+use Rattle.extract.specs.Standings.{standing}
 use Rattle.controller.specs.Calls.{Turn, refusal_of}
 use Rattle.controller.specs.Keeping.{State, state, state_in}
 use Rattle.controller.proofs.Called.{no_row_ok, at_ok, at_err}

@@ -1,6 +1,6 @@
 use Rattle.std.proofs.Common.{length, subst, ap}
 use Rattle.std.proofs.lemmas.Result.{on_err_weaker}
-use Rattle.maps.specs.Places.{Passed, Found}
+use Rattle.maps.specs.Places.{NoneOfKey, StandsFirstAt}
 use Rattle.ordered.specs.Tables.{items}
 use Rattle.ordered.proofs.Laws.{lawful}
 use Rattle.loose.proofs.Piles.{put_found, found_apart, put_passed, passed_apart}
@@ -9,22 +9,22 @@ use Rattle.loose.proofs.table.LooseMapped.put.Goals as goal
 
 pub invariant_of-self : goal.invariant_of-self
 invariant_of-self g c =
-    let found = subst (λ xs. Found g.E.Key.KeyOrder.before g.E.Keyed.keyed xs c.key.result c.in-Some.place) c.held.ensures c.in-Some.ensures in
+    let found = subst (λ xs. StandsFirstAt g.E.Key.KeyOrder.before g.E.Keyed.keyed xs c.key.result c.in-Some.place) c.as_slice.ensures c.in-Some.ensures in
     record { distinct = found_apart g.E.Key.KeyOrder.before g.E.Keyed.keyed (lawful g.met.E.Key.KeyOrder) _ _ _ _ _ c.key.ensures found c.set.ensures.items c.args.self.now.distinct }
 
 pub invariant_of-self-in-None : goal.invariant_of-self-in-None
 invariant_of-self-in-None g c =
-    let passed = subst (λ xs. Passed g.E.Key.KeyOrder.before g.E.Keyed.keyed xs c.key.result (length xs)) c.held.ensures c.in-None.ensures in
+    let passed = subst (λ xs. NoneOfKey g.E.Key.KeyOrder.before g.E.Keyed.keyed xs c.key.result (length xs)) c.as_slice.ensures c.in-None.ensures in
     record { distinct = passed_apart g.E.Key.KeyOrder.before g.E.Keyed.keyed (lawful g.met.E.Key.KeyOrder) _ _ _ _ c.try_push.result c.args.self.now.distinct c.key.ensures passed c.try_push.ensures.items (on_err_weaker c.try_push.result (ap items) c.try_push.ensures.unchanged) }
 
 pub returns-in-Some-clause-put : goal.returns-in-Some-clause-put
 returns-in-Some-clause-put g c =
-    let found = subst (λ xs. Found g.E.Key.KeyOrder.before g.E.Keyed.keyed xs c.key.result c.in-Some.place) c.held.ensures c.in-Some.ensures in
+    let found = subst (λ xs. StandsFirstAt g.E.Key.KeyOrder.before g.E.Keyed.keyed xs c.key.result c.in-Some.place) c.as_slice.ensures c.in-Some.ensures in
     put_found g.E.Key.KeyOrder.before g.E.Keyed.keyed (lawful g.met.E.Key.KeyOrder) _ _ _ _ _ _ c.key.ensures found c.set.ensures.items
 
 pub returns-in-None-clause-put : goal.returns-in-None-clause-put
 returns-in-None-clause-put g c =
-    let passed = subst (λ xs. Passed g.E.Key.KeyOrder.before g.E.Keyed.keyed xs c.key.result (length xs)) c.held.ensures c.in-None.ensures in
+    let passed = subst (λ xs. NoneOfKey g.E.Key.KeyOrder.before g.E.Keyed.keyed xs c.key.result (length xs)) c.as_slice.ensures c.in-None.ensures in
     put_passed g.E.Key.KeyOrder.before g.E.Keyed.keyed (lawful g.met.E.Key.KeyOrder) _ _ _ _ _ c.try_push.result c.args.self.now.distinct c.key.ensures passed c.try_push.ensures.done c.try_push.ensures.items (on_err_weaker c.try_push.result (ap items) c.try_push.ensures.unchanged)
 
 pub returns-in-None-clause-unchanged : goal.returns-in-None-clause-unchanged

@@ -1,4 +1,4 @@
--- What the open extract and the overlay show.
+-- How far an open extract is read with what is pending over a store, and what a row is judged by.
 use Rattle.std.specs.Prelude.{ℕ, ◌+◌, Bool, true, List, ◌++◌}
 use Rattle.cif.specs.declared.content.BasicSchedule.{BasicSchedule}
 use Rattle.cif.specs.declared.content.Change.{Change as Asked}
@@ -15,21 +15,21 @@ use Rattle.extract.specs.Progress.{Progress, begun_by}
 use Rattle.extract.specs.Judging.{Standing}
 
 -- how far the extract is read, with what is pending
-abbrev pub seen : Extract → List Change → Progress
-seen e changes = record { stage = e.stage; taken = e.taken; current = e.current; draft = plain_of e.draft; changes = changes }
+abbrev pub progress_with : Extract → List Change → Progress
+progress_with e changes = record { stage = e.stage; taken = e.taken; current = e.current; draft = plain_of e.draft; changes = changes }
 
 -- a row more, by the stage after it, the transaction that is then being read, and those that join at it
-abbrev pub moved : Progress → Stage → Change → List Change → Progress
-moved p stage draft joining =
+abbrev pub next_progress : Progress → Stage → Change → List Change → Progress
+next_progress p stage draft joining =
     record p { stage = stage; taken = p.taken + 1; draft = draft; changes = p.changes ++ joining }
 
 -- what a row is judged by, for what a store means and what is pending
-abbrev pub judged_at : Meaning → Extract → List Change → List ℕ → Standing
-judged_at store e changes reference = record { extract = seen e changes; store = store; reference = reference }
+abbrev pub standing_at : Meaning → Extract → List Change → List ℕ → Standing
+standing_at store e changes reference = record { extract = progress_with e changes; store = store; reference = reference }
 
 -- the same over a store, with what is pending over it
 abbrev pub standing : {S : Type 0} → (S → Meaning) → Extract → Overlay S → List ℕ → Standing
-standing meaning e o reference = judged_at (meaning o.store) e (pending_in o.pending) reference
+standing meaning e o reference = standing_at (meaning o.store) e (pending_in o.pending) reference
 
 -- the schedule that a BS begins, if it begins one, is in range
 abbrev pub range_in : BasicSchedule → Asked → Bool
