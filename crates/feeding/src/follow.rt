@@ -37,7 +37,7 @@ enum Outcome {
 }
 
 impl<'a, 'b, S: Store + Drop> Followed<'a, 'b, S> {
-    ghost use Rattle.std.specs.Prelude.{◌+◌, ◌*◌, ◌<◌, ◌≤◌, ◌||◌, cond, length, is_ok, IsTrue, IfOk, OnOk, OnErr};
+    ghost use Rattle.std.specs.Prelude.{◌+◌, ◌*◌, ◌<◌, ◌≤◌, ◌||◌, if◌then◌else◌, length, is_ok, IsTrue, IfOk, OnOk, OnErr};
     ghost use Rattle.std.specs.Bool.{OnFalse};
     ghost use Rattle.overlay.specs.Settling.{after_tries};
     ghost use Rattle.extract.specs.Progress.{idle};
@@ -178,8 +178,8 @@ impl<'a, 'b, S: Store + Drop> Followed<'a, 'b, S> {
     fn hear(&mut self, row: &[u8]) -> Result<(), ExtractFault>
         ensures same { SameStoreAndBoard self.old self.new }
         ensures refused { self.new.refused
-            ≡ cond (is_ok result || is_idle (controller_of self.old)) self.old.refused
-            (counted (self.old.refused + 1)) }
+            ≡ (if is_ok result || is_idle (controller_of self.old) then self.old.refused
+                else counted (self.old.refused + 1)) }
     {
         let is_open = self.controller.stage() != Stage::Idle;
         let heard = hand(&mut self.controller, row);

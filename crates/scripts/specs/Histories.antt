@@ -1,5 +1,5 @@
 -- The histories that the lines of a script tell.
-use Rattle.std.specs.Prelude.{ℕ, ◌+◌, cond, List, [], ◌∷◌, ◌++◌, map, Some, None, Option, Ok, Err, Result, ◌==◌}
+use Rattle.std.specs.Prelude.{ℕ, ◌+◌, if◌then◌else◌, List, [], ◌∷◌, ◌++◌, map, Some, None, Option, Ok, Err, Result, ◌==◌}
 use Rattle.std.specs.Option.{option_map}
 use Rattle.forms.specs.Bytes.{and_then}
 use Rattle.controller.specs.Calls.{Call}
@@ -74,7 +74,7 @@ before_first c (line ∷ lines) = (c ∷ line) ∷ lines
 -- the lines of a text: a line ends at a line feed, and a last one without it counts
 abbrev pub lines_of : List ℕ → List (List ℕ)
 lines_of [] = []
-lines_of (c ∷ cs) = cond (c == 10) ([] ∷ lines_of cs) (before_first c (lines_of cs))
+lines_of (c ∷ cs) = if c == 10 then [] ∷ lines_of cs else before_first c (lines_of cs)
 
 -- what follows the histories after a line, or the number of a line that may not stand where it does
 abbrev pub or_line :
