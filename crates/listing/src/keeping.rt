@@ -53,8 +53,8 @@ impl<'a> Both<'a> {
 
     /// Two empty stores, each over its slots, whatever they hold.
     pub fn new(table: &'a mut [Record], bag: &'a mut [Record]) -> Both<'a>
-        ensures no_schedule_in_table { table_records result ≡ [] }
-        ensures no_schedule_in_bag { bag_records result ≡ [] }
+        ensures table_empty { table_records result ≡ [] }
+        ensures bag_empty { bag_records result ≡ [] }
         ensures table { table_capacity result ≡ min (length table.old) 65535 }
         ensures bag { bag_capacity result ≡ min (length bag.old) 65535 }
     {
