@@ -1,4 +1,4 @@
-// Tasks that list what files of rows hold, put into stores or shown on a board.
+//! Tasks that list what files of rows hold, put into stores or shown on a board.
 #![tactic(auto)]
 
 pub mod boards;
