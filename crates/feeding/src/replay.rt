@@ -10,6 +10,7 @@ use board::display::{Board, StationDay};
 use board::line::Line;
 use controller::answer::Answer;
 use listing::boards::{empty_line, print_each, shown_lines};
+use listing::error::{TaskError, read_file};
 use listing::keeping::empty_record;
 use listing::rows::{Tally, print_calls};
 use runs::call::Call;
@@ -19,7 +20,6 @@ use scripts::history::History;
 use scripts::reading::{Unread, histories_in};
 use scripts::step::Step;
 use std::alloc::AllocError;
-use std::fs;
 use stores::bag::Bag;
 use stores::table::Table;
 use timetable::Store;
@@ -223,26 +223,31 @@ fn replay_over_both(
 }
 
 // The histories of a script, or an error that names the line that is none of a script.
-fn histories_of(rt: &HostRuntime, name: &str, script: &[u8]) -> anyhow::Result<Vec<History>>
+fn histories_of(
+    rt: &HostRuntime,
+    name: &str,
+    script: &[u8],
+) -> Result<Vec<History>, TaskError>
     ensures { IfOk result (λ histories. histories_of script.now ≡ Ok (map told histories.items)) }
 {
     match histories_in(rt.alloc(), script) {
         Ok(histories) => Ok(histories),
         Err(Unread::Line(number)) => {
-            Err(anyhow!("script {name}, line {number}: no line of a script"))
+            Err(TaskError::Line(String::from_str(rt.alloc(), name)?, number))
         }
         Err(Unread::Memory(error)) => Err(error.into()),
     }
 }
 
 // Does the histories of a script, and prints what came of each call.
-pub fn print_script(rt: &HostRuntime, name: &str) -> anyhow::Result<()> {
-    let script = fs::read(rt, name)?;
+pub fn print_script(rt: &HostRuntime, name: &str) -> Result<(), TaskError> {
+    let script = read_file(rt, name)?;
     let histories = histories_of(rt, name, script.as_slice())?;
     println!(rt; "script {name}")?;
     let mut tally = Tally::new();
     for (place, history) in histories.iter().enumerate() {
         replay_over_both(rt, place + 1, history, &mut tally)?;
     }
-    print_calls(rt, histories.len() as u64, &tally)
+    print_calls(rt, histories.len() as u64, &tally)?;
+    Ok(())
 }

@@ -5,6 +5,7 @@ ghost use Rattle.schedule.specs.Records.{is_schedule};
 ghost use Rattle.listing.specs.Keeping.{SameRooms};
 
 use crate::drafts::{Asked, Draft};
+use crate::error::{TaskError, read_file};
 use cif::reading::read;
 use files::Rows;
 use forms::letters::Stp;
@@ -12,7 +13,6 @@ use schedule::key::Key;
 use schedule::order::next_in_train;
 use schedule::record::Record;
 use schedule::schedule::Schedule;
-use std::fs;
 use stores::bag::Bag;
 use stores::table::Table;
 use timetable::{Store, Timetable};
@@ -102,10 +102,10 @@ impl<'a> Both<'a> {
     }
 
     // Does what the rows of a file ask. Both capacities stay.
-    pub fn take_file(&mut self, rt: &HostRuntime, name: &str) -> anyhow::Result<()>
+    pub fn take_file(&mut self, rt: &HostRuntime, name: &str) -> Result<(), TaskError>
         ensures { SameRooms self.old self.new }
     {
-        let bytes = fs::read(rt, name)?;
+        let bytes = read_file(rt, name)?;
         let mut draft = Draft::new();
         for row in Rows::new(bytes.as_slice()) {
             if let Ok(content) = read(row)

@@ -3,13 +3,14 @@ ghost use Rattle.std.specs.Prelude.{◌≡◌, ℕ, ◌+◌, ◌<◌, ◌≢◌,
 ghost use Rattle.cif.specs.Refusals.{number_of};
 ghost use Rattle.listing.specs.Tallies.{counted, refusal_told};
 
+use crate::error::{TaskError, read_file};
 use cif::content::Content;
 use cif::reading::read;
 use cif::refusal::{Refusal, RowFault};
 use controller::answer::Answer;
 use files::Rows;
 use std::io::{BufWriter, Write};
-use std::{fs, io};
+use std::io;
 use wording::rows::Words;
 use wording::words::FaultWords;
 
@@ -141,8 +142,8 @@ fn write_row<W: Write + Drop>(
 }
 
 // Prints each row of a file, and how many there were.
-pub fn print_file(rt: &HostRuntime, name: &str) -> anyhow::Result<Tally> {
-    let bytes = fs::read(rt, name)?;
+pub fn print_file(rt: &HostRuntime, name: &str) -> Result<Tally, TaskError> {
+    let bytes = read_file(rt, name)?;
     let mut out = BufWriter::new(rt.alloc(), io::writer(rt))?;
     writeln!(out, "file {name}")?;
     let mut tally = Tally::new();
