@@ -1,4 +1,10 @@
 //! What is said in place of a task.
+ghost use Rattle.std.specs.Prelude.{◌≡◌};
+ghost use Rattle.clap.specs.Values.{kind_of};
+ghost use Rattle.clap.specs.declared.error.kind.ErrorKind.TheVariants.{InvalidValue};
+ghost use Rattle.tasks.specs.declared.refusal.NoTask.TheVariants.{OutOfMemory};
+ghost use Rattle.tasks.specs.Refusals.{SaysKind};
+
 use clap::Error;
 use clap::error::ErrorKind;
 use std::alloc::{AllocError, AllocFailed, Global};
@@ -16,12 +22,16 @@ pub enum NoTask {
 }
 
 impl<T: Drop> From<AllocFailed<T>> for NoTask {
+    ghost from_gives = { λ _ said. said ≡ OutOfMemory };
+
     fn from(_error: AllocFailed<T>) -> NoTask {
         NoTask::OutOfMemory
     }
 }
 
 impl From<AllocError> for NoTask {
+    ghost from_gives = { λ _ said. said ≡ OutOfMemory };
+
     fn from(_error: AllocError) -> NoTask {
         NoTask::OutOfMemory
     }
@@ -55,7 +65,9 @@ fn text_of(alloc: Global, error: &Error) -> Result<String, AllocError> {
 }
 
 // What is said for an error of `clap`.
-pub(crate) fn refused(alloc: Global, error: &Error) -> NoTask {
+pub(crate) fn refused(alloc: Global, error: &Error) -> NoTask
+    ensures { SaysKind (kind_of error.now) result }
+{
     if error.kind() == ErrorKind::OutOfMemory {
         return NoTask::OutOfMemory;
     }
@@ -67,7 +79,9 @@ pub(crate) fn refused(alloc: Global, error: &Error) -> NoTask {
 }
 
 // What is said for a word that names no store.
-pub(crate) fn no_store(alloc: Global, word: &str) -> NoTask {
+pub(crate) fn no_store(alloc: Global, word: &str) -> NoTask
+    ensures { SaysKind InvalidValue result }
+{
     let text = format!(in alloc;
         "error: invalid value '{word}' for '--store <STORE>'\n  [possible values: table, bag]\n\nFor more information, try '--help'.\n"
     );
