@@ -3,3 +3,4 @@ pub mod Numbers
 pub mod PartLemmas
 pub mod ReadingLemmas
 pub mod TaskLemmas
+pub mod WorkedLines

@@ -27,12 +27,12 @@ parts_found (w ∷ ws) h =
     let more : 1 + n + 1 ≡ suc (n + 1) = omega arith in
     let one : 1 + n ≡ suc n = omega arith in
     elim (is_dashes w) as (λ b. cond (not b) (1 + n) 0 < suc (length ws)
-        → cond b ([] ∷ parts (spelled ws)) (with_first (string_bytes w) (parts (spelled ws)))
-        ≡ spelled (take (cond (not b) (1 + n) 0) (w ∷ ws)) ∷ parts (spelled (drop (cond (not b) (1 + n) 0 + 1) (w ∷ ws)))) [
+    → cond b ([] ∷ parts (spelled ws)) (with_first (string_bytes w) (parts (spelled ws)))
+    ≡ spelled (take (cond (not b) (1 + n) 0) (w ∷ ws)) ∷ parts (spelled (drop (cond (not b) (1 + n) 0 + 1) (w ∷ ws)))) [
       | true ↦ λ k. refl
       | false ↦ λ k. ap (λ (ps : List (List Text)). with_first (string_bytes w) ps) (parts_found ws (omega arith))
-        ∙ ap (λ (i : ℕ). spelled (take i (w ∷ ws)) ∷ parts (spelled (drop (n + 1) ws))) (sym one)
-        ∙ ap (λ (i : ℕ). spelled (take (1 + n) (w ∷ ws)) ∷ parts (spelled (drop i (w ∷ ws)))) (sym more)
+          ∙ ap (λ (i : ℕ). spelled (take i (w ∷ ws)) ∷ parts (spelled (drop (n + 1) ws))) (sym one)
+          ∙ ap (λ (i : ℕ). spelled (take (1 + n) (w ∷ ws)) ∷ parts (spelled (drop i (w ∷ ws)))) (sym more)
     ]
     h
 
@@ -42,7 +42,7 @@ parts_alone [] h = refl
 parts_alone (w ∷ ws) h =
     let n = dashes_in ws in
     elim (is_dashes w) as (λ b. suc (length ws) ≤ cond (not b) (1 + n) 0
-        → cond b ([] ∷ parts (spelled ws)) (with_first (string_bytes w) (parts (spelled ws))) ≡ spelled (w ∷ ws) ∷ []) [
+    → cond b ([] ∷ parts (spelled ws)) (with_first (string_bytes w) (parts (spelled ws))) ≡ spelled (w ∷ ws) ∷ []) [
       | true ↦ λ k. absurd (omega arith)
       | false ↦ λ k. ap (λ (ps : List (List Text)). with_first (string_bytes w) ps) (parts_alone ws (omega arith))
     ]

@@ -1,5 +1,5 @@
 -- Tasks that are read one after another.
-use Rattle.std.proofs.Common.{◌≡◌, ◌∙◌, ◌++◌, ◌∷◌, [], List, map, ap, sym, subst}
+use Rattle.std.proofs.Common.{◌≡◌, ◌++◌, ◌∷◌, [], List, map, ap, sym, subst}
 use Rattle.std.specs.Prelude.{Option, Some, Result, Ok, Err, IsErrAnd, MatchResult}
 use Rattle.clap.specs.Kinds.{Kinds, or_else}
 use Rattle.clap.specs.Walk.{Text}

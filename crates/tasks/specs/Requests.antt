@@ -1,5 +1,5 @@
 -- What the words of the command line ask for.
-use Rattle.std.specs.Prelude.{◌≡◌, ℕ, Bool, List, [], ◌∷◌, map, codes, cond, if◌then◌else◌}
+use Rattle.std.specs.Prelude.{ℕ, List, [], ◌∷◌, codes, cond, if◌then◌else◌}
 use Rattle.std.specs.Prelude.{Option, Some, None, option_map, option_and_then}
 use Rattle.std.specs.Str.{bytes_eq}
 use Rattle.std.specs.Str.Parse.{digits_value, without_leading_plus}
@@ -129,10 +129,10 @@ request_in words = request_of_used (subcommand_of departures words)
 
 -- ---- several tasks
 
--- a word put before the first of some lists
-abbrev pub with_first : Text → List (List Text) → List (List Text)
-with_first word [] = (word ∷ []) ∷ []
-with_first word (first ∷ rest) = (word ∷ first) ∷ rest
+-- one more at the head of the first of some lists
+abbrev pub with_first : {A : Type 0} → A → List (List A) → List (List A)
+with_first x [] = (x ∷ []) ∷ []
+with_first x (first ∷ rest) = (x ∷ first) ∷ rest
 
 -- the words of each task, which the word `--` stands between
 abbrev pub parts : List Text → List (List Text)

@@ -6,6 +6,7 @@ mod reading;
 mod refusal;
 mod store;
 mod task;
+pub mod worked;
 
 pub use reading::tasks_in;
 pub use refusal::NoTask;

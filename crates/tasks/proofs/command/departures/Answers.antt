@@ -1,5 +1,5 @@
 use Rattle.std.proofs.lemmas.Result.{IfOk-weaker}
-use Rattle.tasks.specs.Commands.{board_command, departures, extract_command, program, replay_command, rows_command, run_command, stores_command, turns_command, with_task}
+use Rattle.tasks.specs.Commands.{board_command, extract_command, program, replay_command, rows_command, run_command, stores_command, turns_command, with_task}
 use Rattle.tasks.proofs.CommandLemmas.{add_task}
 use Rattle.tasks.proofs.command.departures.Goals as goal
 
@@ -24,5 +24,5 @@ returns c =
     let is_six = add_task five turns_command c.in_ok-subcommand-5.field-0 c.in_ok-turns_command.field-0 c.in_ok-subcommand-6.field-0
     is_five c.in_ok-turns_command.ensures c.in_ok-subcommand-6.ensures in
     IfOk-weaker c.subcommand-7.result _ _ (λ command adds.
-        add_task six extract_command c.in_ok-subcommand-6.field-0 c.in_ok-extract_command.field-0 command
-        is_six c.in_ok-extract_command.ensures adds) c.subcommand-7.ensures
+    add_task six extract_command c.in_ok-subcommand-6.field-0 c.in_ok-extract_command.field-0 command
+    is_six c.in_ok-extract_command.ensures adds) c.subcommand-7.ensures

@@ -1,10 +1,8 @@
-use Rattle.std.proofs.Common.{◌≡◌, ◌∙◌, List, map, string_bytes, sym}
+use Rattle.std.proofs.Common.{List, map, string_bytes}
 use Rattle.std.specs.Prelude.{Result, Ok, Err}
-use Rattle.clap.specs.Simple.{app_of, subcommand_rows_of}
 use Rattle.clap.specs.Walk.{Text}
 use Rattle.clap.specs.declared.error.Error.{Error}
 use Rattle.clap.specs.declared.parser.matches.ArgMatches.{ArgMatches}
-use Rattle.tasks.specs.Requests.{request_in, request_of, request_of_used}
 use Rattle.tasks.proofs.ReadingLemmas.{matched_asks, matched_faults, refused_faults, same_faults, same_request}
 use Rattle.tasks.proofs.reading.task_in.Goals as goal
 
