@@ -1,9 +1,10 @@
 // Scripts of calls, done to controllers over both stores.
-ghost use Rattle.std.specs.Prelude.{◌≡◌, ℕ, ◌<◌, ◌↔◌, IsTrue, IfOk, Ok, length, map, slice_get};
+ghost use Rattle.std.specs.Prelude.{◌≡◌, ℕ, ◌<◌, ◌↔◌, IsTrue, IfOk, IfErr, Ok, Err, length, map, slice_get};
 ghost use Rattle.ordered.specs.Tables.{items};
 ghost use Rattle.runs.specs.Runs.{asked};
 ghost use Rattle.scripts.specs.Histories.{told, histories_of};
 ghost use Rattle.scripts.specs.Steps.{call_of};
+ghost use Rattle.listing.specs.Errors.{NamesLine};
 
 use anyhow::anyhow;
 use board::display::{Board, StationDay};
@@ -228,7 +229,8 @@ fn histories_of(
     name: &str,
     script: &[u8],
 ) -> Result<Vec<History>, TaskError>
-    ensures { IfOk result (λ histories. histories_of script.now ≡ Ok (map told histories.items)) }
+    ensures histories { IfOk result (λ histories. histories_of script.now ≡ Ok (map told histories.items)) }
+    ensures slip { IfErr result (NamesLine name.now (λ number. histories_of script.now ≡ Err number)) }
 {
     match histories_in(rt.alloc(), script) {
         Ok(histories) => Ok(histories),

@@ -9,8 +9,8 @@ use cif::reading::read;
 use cif::refusal::{Refusal, RowFault};
 use controller::answer::Answer;
 use files::Rows;
-use std::io::{BufWriter, Write};
 use std::io;
+use std::io::{BufWriter, Write};
 use wording::rows::Words;
 use wording::words::FaultWords;
 
