@@ -224,11 +224,7 @@ fn replay_over_both(
 }
 
 // The histories of a script, or an error that names the line that is none of a script.
-fn histories_of(
-    rt: &HostRuntime,
-    name: &str,
-    script: &[u8],
-) -> Result<Vec<History>, TaskError>
+fn histories_of(rt: &HostRuntime, name: &str, script: &[u8]) -> Result<Vec<History>, TaskError>
     ensures histories { IfOk result (λ histories. histories_of script.now ≡ Ok (map told histories.items)) }
     ensures slip { IfErr result (NamesLine name.now (λ number. histories_of script.now ≡ Err number)) }
 {

@@ -6,6 +6,8 @@ mod reading;
 mod refusal;
 mod store;
 mod task;
+#[cfg(test)]
+mod tests;
 pub mod worked;
 
 pub use reading::tasks_in;
