@@ -1,5 +1,6 @@
 // Scripts of calls, done to controllers over both stores.
-ghost use Rattle.std.specs.Prelude.{◌≡◌, ℕ, ◌<◌, ◌↔◌, IsTrue, IfOk, IfErr, Ok, Err, length, map, slice_get};
+ghost use Rattle.std.specs.Prelude.{◌≡◌, ℕ, ◌<◌, ◌↔◌, IsTrue, IfOk, IfErr, Ok, Err};
+ghost use Rattle.std.specs.Prelude.{length, map, slice_get};
 ghost use Rattle.ordered.specs.Tables.{items};
 ghost use Rattle.runs.specs.Runs.{asked};
 ghost use Rattle.scripts.specs.Histories.{told, histories_of};
@@ -225,8 +226,10 @@ fn replay_over_both(
 
 // The histories of a script, or an error that names the line that is none of a script.
 fn histories_of(rt: &HostRuntime, name: &str, script: &[u8]) -> Result<Vec<History>, TaskError>
-    ensures histories { IfOk result (λ histories. histories_of script.now ≡ Ok (map told histories.items)) }
-    ensures slip { IfErr result (NamesLine name.now (λ number. histories_of script.now ≡ Err number)) }
+    ensures histories { IfOk result (λ histories.
+        histories_of script.now ≡ Ok (map told histories.items)) }
+    ensures slip { IfErr result (NamesLine name.now (λ number.
+        histories_of script.now ≡ Err number)) }
 {
     match histories_in(rt.alloc(), script) {
         Ok(histories) => Ok(histories),

@@ -3,8 +3,8 @@ use Rattle.std.specs.Prelude.{◌≡◌, ◌==◌, List, [], ◌∷◌, codes, c
 use Rattle.clap.specs.Walk.{Text}
 use Rattle.clap.specs.declared.error.kind.ErrorKind.TheVariants as kind
 use Rattle.tasks.specs.declared.store.StoreKind.TheVariants.{Table, Bag}
-use Rattle.tasks.specs.Requests.{BoardRequest, Request, board, board_with, extract, parts, replay, request_in}
-use Rattle.tasks.specs.Requests.{rows, run, stores, turns, with_first}
+use Rattle.tasks.specs.Requests.{BoardRequest, Request, board, board_with, extract, parts, replay}
+use Rattle.tasks.specs.Requests.{request_in, rows, run, stores, turns, with_first}
 use Rattle.tasks.specs.Refusals.{faults_in}
 
 -- the words of a line, with one blank between two
@@ -24,13 +24,16 @@ usual_board = board_with Table 2000 (codes "HALTA") (codes "240304")
 
 -- each task
 pub record Tasks : Type 0 where
-  pub rows : asked_by (codes "rows week.cif update.cif") ≡ Some (rows (codes "week.cif" ∷ codes "update.cif" ∷ []))
+  pub rows : asked_by (codes "rows week.cif update.cif")
+      ≡ Some (rows (codes "week.cif" ∷ codes "update.cif" ∷ []))
   pub replay : asked_by (codes "replay week.cif") ≡ Some (replay week)
   pub stores : asked_by (codes "stores week.cif") ≡ Some (stores 2000 week)
   pub run : asked_by (codes "run HALTA 240304 week.cif") ≡ Some (run usual_board week)
   pub board : asked_by (codes "board HALTA 240304 week.cif") ≡ Some (board usual_board week)
-  pub turns : asked_by (codes "turns 1000 HALTA 240304 week.cif") ≡ Some (turns 1000 usual_board week)
-  pub extract : asked_by (codes "extract HALTA 240304 week.cif") ≡ Some (extract None usual_board week)
+  pub turns : asked_by (codes "turns 1000 HALTA 240304 week.cif")
+      ≡ Some (turns 1000 usual_board week)
+  pub extract : asked_by (codes "extract HALTA 240304 week.cif")
+      ≡ Some (extract None usual_board week)
 
 -- options, before the other words, among them and behind them
 pub record Options : Type 0 where
@@ -43,12 +46,17 @@ pub record Options : Type 0 where
 -- wrong words, and those that ask for help or the version
 pub record Faults : Type 0 where
   pub none : faults_in [] ≡ kind.MissingSubcommand ∷ []
-  pub no_such_task : faults_in (words_of (codes "rum week.cif")) ≡ kind.UnknownArgument ∷ kind.InvalidSubcommand ∷ []
+  pub no_such_task : faults_in (words_of (codes "rum week.cif"))
+      ≡ kind.UnknownArgument ∷ kind.InvalidSubcommand ∷ []
   pub missing : faults_in (words_of (codes "run HALTA 240304")) ≡ kind.MissingRequiredArgument ∷ []
-  pub no_such_store : faults_in (words_of (codes "run --store shelf HALTA 240304 week.cif")) ≡ kind.InvalidValue ∷ []
-  pub too_many_slots : faults_in (words_of (codes "stores --capacity 65537 week.cif")) ≡ kind.ValueValidation ∷ []
-  pub repeated : faults_in (words_of (codes "stores --capacity 1 --capacity 1 week.cif")) ≡ kind.ArgumentConflict ∷ []
-  pub not_here : faults_in (words_of (codes "rows --store bag week.cif")) ≡ kind.UnknownArgument ∷ []
+  pub no_such_store : faults_in (words_of (codes "run --store shelf HALTA 240304 week.cif"))
+      ≡ kind.InvalidValue ∷ []
+  pub too_many_slots : faults_in (words_of (codes "stores --capacity 65537 week.cif"))
+      ≡ kind.ValueValidation ∷ []
+  pub repeated : faults_in (words_of (codes "stores --capacity 1 --capacity 1 week.cif"))
+      ≡ kind.ArgumentConflict ∷ []
+  pub not_here : faults_in (words_of (codes "rows --store bag week.cif"))
+      ≡ kind.UnknownArgument ∷ []
   pub help : faults_in (words_of (codes "--help")) ≡ kind.DisplayHelp ∷ []
   pub help_on_task : faults_in (words_of (codes "run --help")) ≡ kind.DisplayHelp ∷ []
   pub version : faults_in (words_of (codes "--version")) ≡ kind.DisplayVersion ∷ []

@@ -2,10 +2,10 @@
 ghost use Rattle.std.specs.Prelude.{◌≡◌, false, codes, IfOk};
 ghost use Rattle.clap.specs.Words.{app_of, rule_of};
 ghost use Rattle.tasks.specs.Commands.{IsCommand, base_rule, capacity_rule, count_rule, date_rule};
-ghost use Rattle.tasks.specs.Commands.{files_rule, station_rule, store_rule, over_store, with_board};
+ghost use Rattle.tasks.specs.Commands.{files_rule, station_rule, store_rule, over_store};
 ghost use Rattle.tasks.specs.Commands.{run_command, replay_command, rows_command, stores_command};
 ghost use Rattle.tasks.specs.Commands.{board_command, turns_command, extract_command};
-ghost use Rattle.tasks.specs.Commands.{IsLocal, departures, program};
+ghost use Rattle.tasks.specs.Commands.{IsLocal, departures, program, with_board};
 
 use clap::builder::ValueParser;
 use clap::{Arg, Command};

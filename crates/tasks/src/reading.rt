@@ -1,5 +1,6 @@
 //! The tasks that the words of the command line ask for.
-ghost use Rattle.std.specs.Prelude.{◌≡◌, ◌<◌, [], ◌∷◌, Some, map, codes, string_bytes, length, position, IfOk, IfSome, MatchResult, option_map};
+ghost use Rattle.std.specs.Prelude.{◌≡◌, ◌<◌, [], ◌∷◌, Some, map, codes, string_bytes, length};
+ghost use Rattle.std.specs.Prelude.{position, IfOk, IfSome, MatchResult, option_map};
 ghost use Rattle.std.specs.Str.{bytes_eq};
 ghost use Rattle.clap.specs.Simple.{subcommand_rows_of};
 ghost use Rattle.tasks.specs.Requests.{request_of, request_of_used, request_in, parts, parts_left};
@@ -50,7 +51,8 @@ fn dashes_in(words: &[String]) -> Option<usize>
 // The words before the first `--`, and those behind it where there is one.
 fn first_part(words: &[String]) -> (&[String], Option<&[String]>)
     ensures parts { parts (map string_bytes words.now)
-        ≡ map string_bytes result.0.now ∷ parts_left (option_map (λ rest. map string_bytes rest.now) result.1) }
+        ≡ map string_bytes result.0.now
+        ∷ parts_left (option_map (λ rest. map string_bytes rest.now) result.1) }
     ensures shorter { IfSome result.1 (λ rest. length rest.now < length words.now) }
 {
     match dashes_in(words) {

@@ -48,6 +48,9 @@ impl fmt::Display for NoTask {
 
 impl error::Error for NoTask {}
 
+// What an error ends with.
+const SEE_HELP: &str = "For more information, try '--help'.";
+
 // The text of an error of `clap`, without its advice to put `--` before a word, which stands
 // between two tasks here.
 fn text_of(alloc: Global, error: &Error) -> Result<String, AllocError> {
@@ -83,7 +86,7 @@ pub(crate) fn no_store(alloc: Global, word: &str) -> NoTask
     ensures { SaysKind InvalidValue result }
 {
     let text = format!(in alloc;
-        "error: invalid value '{word}' for '--store <STORE>'\n  [possible values: table, bag]\n\nFor more information, try '--help'.\n"
+        "error: invalid value '{word}' for '--store <STORE>'\n  [possible values: table, bag]\n\n{SEE_HELP}\n"
     );
     match text {
         Ok(text) => NoTask::Wrong(text),

@@ -3,9 +3,9 @@ ghost use Rattle.std.specs.Prelude.{◌≡◌, codes, IfOk, option_map};
 ghost use Rattle.forms.specs.Forms.{date_in};
 ghost use Rattle.clap.specs.Walk.{first_of, rows_of, texts};
 ghost use Rattle.clap.specs.Matches.{found_of};
-ghost use Rattle.tasks.specs.Requests.{board_request_of, request_of, number_up_to, slots_in, store_in};
-ghost use Rattle.tasks.specs.Requests.{count_in, files_in, board_in, request_over, request_with};
-ghost use Rattle.tasks.specs.Requests.{request_by};
+ghost use Rattle.tasks.specs.Requests.{board_request_of, request_of, number_up_to, slots_in};
+ghost use Rattle.tasks.specs.Requests.{store_in, count_in, files_in, board_in, request_over};
+ghost use Rattle.tasks.specs.Requests.{request_with, request_by};
 
 use crate::store::StoreKind;
 use clap::ArgMatches;
