@@ -9,8 +9,7 @@ use listing::keeping::Both;
 use listing::{boards, keeping, rows};
 use std::env;
 use std::process::ExitCode;
-use stores::bag::Bag;
-use stores::table::Table;
+use stores::{Bag, Table};
 use tasks::{NoTask, StoreKind, Task, Wanted, Work, tasks_in};
 use timetable::Store;
 
