@@ -1,2 +1,3 @@
 pub mod Handing
+pub mod Taking
 pub mod Following

@@ -1,9 +1,8 @@
-// Extracts taken row by row. Nothing here touches the store of a controller.
-ghost use Rattle.std.specs.Prelude.{◌≡◌, false, is_ok, IfOk};
+//! Extracts taken row by row. Nothing here touches the store of a controller.
+ghost use Rattle.std.specs.Prelude.{◌≡◌, OnErr};
 ghost use Rattle.cif.specs.Refusals.{fault_of};
 ghost use Rattle.controller.specs.Calls.{refusal_of};
-ghost use Rattle.controller.specs.Shown.{progress_in, standing_in};
-ghost use Rattle.extract.specs.Progress.{idle};
+ghost use Rattle.controller.specs.Shown.{store_of, standing_in};
 ghost use Rattle.feeding.specs.Handing.{handed};
 
 use board::display::Board;
@@ -14,20 +13,22 @@ use controller::fault::ExtractFault;
 use extract::stage::Stage;
 use files::Rows;
 use listing::boards::{filled, line_slots, print_refused, shown_lines};
+use listing::error::{TaskError, read_file};
 use listing::rows::Tally;
 use std::alloc::AllocError;
-use std::fs;
 use tasks::{StoreKind, Wanted};
 use timetable::{Store, Timetable};
 use wording::answers::RefusedWords;
 use wording::changes::ChangeWords;
 use wording::words::{Text, stage_name};
 
-// Hands a row to the controller: an HD row by open, any other by row.
+/// Hands a row, any bytes, to the controller: one that begins with HD to open, any other to row.
+/// What is refused, and with what, is in docs/refusals.md; then nothing changes.
 pub fn hand<S: Store>(controller: &mut Controller<S>, row: &[u8]) -> Result<(), ExtractFault>
-    ensures told { fault_of result ≡ refusal_of (handed row.now) (standing_in S.meaning controller.old) 0 }
-    ensures unchanged { is_ok result ≡ false → controller.new ≡ controller.old }
-    ensures store { controller.new.overlay.store ≡ controller.old.overlay.store }
+    ensures told { fault_of result
+        ≡ refusal_of (handed row.now) (standing_in S.meaning controller.old) 0 }
+    ensures unchanged { OnErr result (controller.new ≡ controller.old) }
+    ensures store { store_of controller.new ≡ store_of controller.old }
 {
     match row {
         [b'H', b'D', ..] => controller.open(row),
@@ -35,31 +36,38 @@ pub fn hand<S: Store>(controller: &mut Controller<S>, row: &[u8]) -> Result<(), 
     }
 }
 
-// Prints why a row of a file was turned away.
+/// Prints why a row of a file was turned away, behind its number in the file.
 pub fn print_fault(rt: &HostRuntime, number: usize, fault: &ExtractFault) -> anyhow::Result<()> {
     let words = RefusedWords(fault);
     println!(rt; "row {number}: {words}")?;
     Ok(())
 }
 
-// Extracts that are taken over a store, what came of their rows, and the board that is shown at the end of each.
+/// Extracts that are taken over a store, what came of their rows, and the board that is shown at
+/// the end of each.
 #[derive(Drop)]
 pub struct Extracts<'a, S> {
     controller: Controller<S>,
+    /// How many rows were taken, and how many were refused with each number.
     pub tally: Tally,
     lines: Vec<Line>,
     wanted: Wanted<'a>,
 }
 
 impl<'a, S: Store + Drop> Extracts<'a, S> {
-    // No extract is open, and no row was taken.
+    ghost use Rattle.std.specs.Prelude.{IfOk};
+    ghost use Rattle.extract.specs.Progress.{idle};
+    ghost use Rattle.controller.specs.Shown.{store_of, progress_in};
+    ghost use Rattle.feeding.specs.Taking.{controller_of};
+
+    /// Over a store: no extract is open, and no row was taken.
     pub fn new(
         rt: &HostRuntime,
         mut store: S,
         wanted: Wanted<'a>,
     ) -> Result<Extracts<'a, S>, AllocError>
-        ensures store { IfOk result (λ extracts. extracts.controller.overlay.store ≡ store) }
-        ensures idle { IfOk result (λ extracts. progress_in extracts.controller ≡ idle) }
+        ensures store { IfOk result (λ extracts. store_of (controller_of extracts) ≡ store) }
+        ensures idle { IfOk result (λ extracts. progress_in (controller_of extracts) ≡ idle) }
     {
         let lines = line_slots(rt, &mut store)?;
         Ok(Extracts {
@@ -79,6 +87,7 @@ impl<'a, S: Store + Drop> Extracts<'a, S> {
         Ok(())
     }
 
+    // Prints that a row was done, with the letters of its identity and the state after it.
     fn print_taken(&self, rt: &HostRuntime, number: usize, row: &[u8]) -> anyhow::Result<()> {
         if let [first, second, ..] = row {
             let letters = [*first, *second];
@@ -88,6 +97,7 @@ impl<'a, S: Store + Drop> Extracts<'a, S> {
         self.print_state(rt, "")
     }
 
+    // Prints the pending transactions in order.
     fn print_pending(&self, rt: &HostRuntime) -> anyhow::Result<()> {
         let pending = self.controller.pending_count();
         println!(rt; "pending {pending} of 32")?;
@@ -100,7 +110,7 @@ impl<'a, S: Store + Drop> Extracts<'a, S> {
 
     // Turns a board to what is wanted, from the store's own map, and counts its lines.
     fn lines_shown(&mut self, rt: &HostRuntime) -> anyhow::Result<Result<u64, Refusal>>
-        ensures { self.new.controller ≡ self.old.controller }
+        ensures { controller_of self.new ≡ controller_of self.old }
     {
         let Some(day) = self.wanted.day() else {
             return Ok(Err(Refusal::NoSuchBoard));
@@ -114,8 +124,9 @@ impl<'a, S: Store + Drop> Extracts<'a, S> {
         }
     }
 
+    // Prints how many lines the board has, or why it cannot be turned to what is wanted.
     fn print_shown(&mut self, rt: &HostRuntime) -> anyhow::Result<()>
-        ensures { self.new.controller ≡ self.old.controller }
+        ensures { controller_of self.new ≡ controller_of self.old }
     {
         match self.lines_shown(rt)? {
             Ok(count) => {
@@ -129,7 +140,7 @@ impl<'a, S: Store + Drop> Extracts<'a, S> {
 
     // Tells what is pending and what the board shows, and drops the extract.
     fn end_extract(&mut self, rt: &HostRuntime) -> anyhow::Result<()>
-        ensures { self.new.controller.overlay.store ≡ self.old.controller.overlay.store }
+        ensures { store_of (controller_of self.new) ≡ store_of (controller_of self.old) }
     {
         self.print_pending(rt)?;
         self.print_shown(rt)?;
@@ -141,7 +152,7 @@ impl<'a, S: Store + Drop> Extracts<'a, S> {
 
     // Hands a row over, and prints what came of it.
     fn take_row(&mut self, rt: &HostRuntime, number: usize, row: &[u8]) -> anyhow::Result<()>
-        ensures { self.new.controller.overlay.store ≡ self.old.controller.overlay.store }
+        ensures { store_of (controller_of self.new) ≡ store_of (controller_of self.old) }
     {
         match hand(&mut self.controller, row) {
             Ok(()) => {
@@ -155,11 +166,11 @@ impl<'a, S: Store + Drop> Extracts<'a, S> {
         }
     }
 
-    // Hands the rows of a file over, and prints what came of each.
-    pub fn take_file(&mut self, rt: &HostRuntime, name: &str) -> anyhow::Result<()>
-        ensures { self.new.controller.overlay.store ≡ self.old.controller.overlay.store }
+    /// Hands the rows of a file over, and prints what came of each. The store stays as it was.
+    pub fn take_file(&mut self, rt: &HostRuntime, name: &str) -> Result<(), TaskError>
+        ensures { store_of (controller_of self.new) ≡ store_of (controller_of self.old) }
     {
-        let bytes = fs::read(rt, name)?;
+        let bytes = read_file(rt, name)?;
         println!(rt; "file {name}")?;
         for (place, row) in Rows::new(bytes.as_slice()).enumerate() {
             self.take_row(rt, place + 1, row)?;
@@ -174,7 +185,8 @@ impl<'a, S: Store + Drop> Extracts<'a, S> {
     }
 }
 
-// How much of the store the base takes up.
+/// Prints how many schedules the store has of so many at the most, and how many were refused. The
+/// store stays as it was.
 pub fn print_head<S: Store>(
     rt: &HostRuntime,
     store: &mut S,

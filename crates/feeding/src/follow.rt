@@ -1,13 +1,6 @@
-// Extracts that are followed: each is confirmed at its end, or abandoned where a row of it was refused.
-ghost use Rattle.std.specs.Prelude.{◌≡◌, ◌+◌, ◌*◌, ◌<◌, ◌≤◌, ◌||◌, false, true, cond, length, is_ok, IfOk};
-ghost use Rattle.ordered.specs.Tables.{room};
-ghost use Rattle.extract.specs.Progress.{idle};
-ghost use Rattle.extract.specs.Stages.{is_stage};
-ghost use Rattle.controller.specs.Shown.{progress_in};
-ghost use Rattle.overlay.specs.Settling.{tried_all};
-ghost use Rattle.extract.specs.declared.stage.Stage.TheVariants.{Idle, Complete};
-ghost use Rattle.listing.specs.Tallies.{counted};
-ghost use Rattle.feeding.specs.Following.{Follows, SameStoreAndBoard};
+//! Extracts that are followed: each is confirmed at its end, or abandoned where a row of it was
+//! refused.
+ghost use Rattle.std.specs.Prelude.{◌≡◌};
 
 use crate::extracts::{hand, print_fault};
 use board::display::Board;
@@ -18,12 +11,13 @@ use controller::fault::ExtractFault;
 use extract::stage::Stage;
 use files::Rows;
 use listing::boards::{filled, print_lines, print_refused, shown_lines};
+use listing::error::{TaskError, read_file};
 use listing::rows::Tally;
-use std::fs;
 use tasks::{StoreKind, Wanted};
 use timetable::Store;
 
-// A controller with the board that follows it, and what came of the rows. Of the open extract it is kept how many rows were refused.
+/// A controller with the board that follows it, what came of the rows, and how many rows of the
+/// open extract were refused.
 #[derive(Drop)]
 pub struct Followed<'a, 'b, S> {
     controller: Controller<S>,
@@ -31,6 +25,7 @@ pub struct Followed<'a, 'b, S> {
     most: usize,
     wanted: Wanted<'a>,
     refused: u64,
+    /// How many rows were taken, and how many were refused with each number.
     pub tally: Tally,
 }
 
@@ -42,12 +37,21 @@ enum Outcome {
 }
 
 impl<'a, 'b, S: Store + Drop> Followed<'a, 'b, S> {
-    // No extract is open, and the board has no station.
+    ghost use Rattle.std.specs.Prelude.{◌+◌, ◌*◌, ◌<◌, ◌≤◌, ◌||◌, if◌then◌else◌, length, is_ok, IsTrue, IfOk, OnOk, OnErr};
+    ghost use Rattle.std.specs.Bool.{OnFalse};
+    ghost use Rattle.overlay.specs.Settling.{after_tries};
+    ghost use Rattle.extract.specs.Progress.{idle};
+    ghost use Rattle.board.specs.Boards.{slots_of};
+    ghost use Rattle.controller.specs.Shown.{store_of, progress_in};
+    ghost use Rattle.listing.specs.Tallies.{counted};
+    ghost use Rattle.feeding.specs.Following.{controller_of, board_of, is_idle, is_complete, Follows, SameStoreAndBoard};
+
+    /// Over a store and line slots: no extract is open, and the board has no station.
     pub fn new(store: S, lines: &'b mut [Line], wanted: Wanted<'a>) -> Followed<'a, 'b, S>
-        ensures store { result.controller.overlay.store ≡ store }
-        ensures idle { progress_in result.controller ≡ idle }
-        ensures slots { room result.board.lines.elements ≡ length lines.old }
-        ensures follows { Follows (S.meaning result).map }
+        ensures store { store_of (controller_of result) ≡ store }
+        ensures idle { progress_in (controller_of result) ≡ idle }
+        ensures slots { slots_of (board_of result) ≡ length lines.old }
+        ensures follows { Follows S.meaning result }
     {
         let most = lines.len();
         Followed {
@@ -62,9 +66,9 @@ impl<'a, 'b, S: Store + Drop> Followed<'a, 'b, S> {
 
     // Turns the board to what is wanted.
     fn turned(&mut self, rt: &HostRuntime) -> anyhow::Result<Result<(), Refusal>>
-        ensures follows { Follows (S.meaning self.old).map → Follows (S.meaning self.new).map }
-        ensures controller { self.new.controller ≡ self.old.controller }
-        ensures unchanged { IfOk result (λ done. is_ok done ≡ false → self.new ≡ self.old) }
+        ensures follows { Follows S.meaning self.old → Follows S.meaning self.new }
+        ensures controller { controller_of self.new ≡ controller_of self.old }
+        ensures unchanged { IfOk result (λ turned. OnErr turned (self.new ≡ self.old)) }
     {
         let wanted = self.wanted;
         let Some(day) = wanted.day() else {
@@ -77,10 +81,11 @@ impl<'a, 'b, S: Store + Drop> Followed<'a, 'b, S> {
         Ok(turned.map_err(|fault| fault.fault.fault.refusal))
     }
 
-    // Turns the board to what is wanted, and prints how many lines it has or why it cannot be turned.
+    /// Turns the board to what is wanted, and prints how many lines it has, or why it cannot be
+    /// turned; then it stays as it was.
     pub fn turn(&mut self, rt: &HostRuntime) -> anyhow::Result<()>
-        ensures follows { Follows (S.meaning self.old).map → Follows (S.meaning self.new).map }
-        ensures controller { self.new.controller ≡ self.old.controller }
+        ensures follows { Follows S.meaning self.old → Follows S.meaning self.new }
+        ensures controller { controller_of self.new ≡ controller_of self.old }
     {
         match self.turned(rt)? {
             Ok(()) => self.print_count(rt),
@@ -109,7 +114,7 @@ impl<'a, 'b, S: Store + Drop> Followed<'a, 'b, S> {
         Ok(())
     }
 
-    // Prints the board.
+    /// Prints the board, which stays as it was.
     pub fn print_board(&mut self, rt: &HostRuntime) -> anyhow::Result<()>
         ensures { self.new ≡ self.old }
     {
@@ -120,11 +125,19 @@ impl<'a, 'b, S: Store + Drop> Followed<'a, 'b, S> {
 
     // Confirms the open extract, or drops it where a row of it was refused or it is not complete.
     fn end(&mut self) -> Outcome
-        ensures spoiled { 0 < self.old.refused → (result ≡ Outcome.Abandoned self.old.refused) × SameStoreAndBoard self.old self.new }
-        ensures whole { self.old.refused ≡ 0 → is_stage (progress_in self.old.controller).stage Complete ≡ true → 2 * (S.meaning self.old.controller.overlay.store).capacity ≤ room self.old.board.lines.elements → result ≡ Outcome.Confirmed }
-        ensures confirmed { result ≡ Outcome.Confirmed → (S.meaning self.new.controller.overlay.store).map ≡ tried_all (S.meaning self.old.controller.overlay.store).capacity (S.meaning self.old.controller.overlay.store).map (progress_in self.old.controller).changes }
-        ensures follows { Follows (S.meaning self.old).map → Follows (S.meaning self.new).map }
-        ensures idle { is_stage (progress_in self.old.controller).stage Idle ≡ false → progress_in self.new.controller ≡ idle }
+        ensures spoiled { 0 < self.old.refused → result ≡ Outcome.Abandoned self.old.refused }
+        ensures left { 0 < self.old.refused → SameStoreAndBoard self.old self.new }
+        ensures whole { self.old.refused ≡ 0 → IsTrue (is_complete (controller_of self.old))
+            → 2 * (S.meaning (store_of (controller_of self.old))).capacity
+            ≤ slots_of (board_of self.old)
+            → result ≡ Outcome.Confirmed }
+        ensures confirmed { result ≡ Outcome.Confirmed
+            → S.meaning (store_of (controller_of self.new))
+            ≡ after_tries (S.meaning (store_of (controller_of self.old)))
+            (progress_in (controller_of self.old)).changes }
+        ensures follows { Follows S.meaning self.old → Follows S.meaning self.new }
+        ensures idle { OnFalse (is_idle (controller_of self.old))
+            (progress_in (controller_of self.new) ≡ idle) }
         ensures none { self.new.refused ≡ 0 }
     {
         let refused = self.refused;
@@ -138,9 +151,10 @@ impl<'a, 'b, S: Store + Drop> Followed<'a, 'b, S> {
 
     // Ends the open extract, and prints what came of it, after the words for where it ended.
     fn end_extract(&mut self, rt: &HostRuntime) -> anyhow::Result<()>
-        ensures spoiled { 0 < self.old.refused → SameStoreAndBoard self.old self.new }
-        ensures follows { Follows (S.meaning self.old).map → Follows (S.meaning self.new).map }
-        ensures idle { is_stage (progress_in self.old.controller).stage Idle ≡ false → progress_in self.new.controller ≡ idle }
+        ensures left { 0 < self.old.refused → SameStoreAndBoard self.old self.new }
+        ensures follows { Follows S.meaning self.old → Follows S.meaning self.new }
+        ensures idle { OnFalse (is_idle (controller_of self.old))
+            (progress_in (controller_of self.new) ≡ idle) }
         ensures none { self.new.refused ≡ 0 }
     {
         let rows = self.controller.rows_taken();
@@ -163,7 +177,9 @@ impl<'a, 'b, S: Store + Drop> Followed<'a, 'b, S> {
     // Hands a row over and counts it. A refused row counts for the open extract, where one is open.
     fn hear(&mut self, row: &[u8]) -> Result<(), ExtractFault>
         ensures same { SameStoreAndBoard self.old self.new }
-        ensures refused { self.new.refused ≡ cond (is_ok result || is_stage (progress_in self.old.controller).stage Idle) self.old.refused (counted (self.old.refused + 1)) }
+        ensures refused { self.new.refused
+            ≡ (if is_ok result || is_idle (controller_of self.old) then self.old.refused
+                else counted (self.old.refused + 1)) }
     {
         let is_open = self.controller.stage() != Stage::Idle;
         let heard = hand(&mut self.controller, row);
@@ -189,12 +205,12 @@ impl<'a, 'b, S: Store + Drop> Followed<'a, 'b, S> {
         Ok(())
     }
 
-    // Hands the rows of a file over, and ends each extract where it is complete or the file ends.
-    pub fn take_file(&mut self, rt: &HostRuntime, name: &str) -> anyhow::Result<()>
-        ensures follows { Follows (S.meaning self.old).map → Follows (S.meaning self.new).map }
-        ensures idle { is_ok result ≡ true → is_stage (progress_in self.new.controller).stage Idle ≡ true }
+    /// Hands the rows of a file over, and ends each extract where it is complete or the file ends.
+    pub fn take_file(&mut self, rt: &HostRuntime, name: &str) -> Result<(), TaskError>
+        ensures follows { Follows S.meaning self.old → Follows S.meaning self.new }
+        ensures idle { OnOk result (IsTrue (is_idle (controller_of self.new))) }
     {
-        let bytes = fs::read(rt, name)?;
+        let bytes = read_file(rt, name)?;
         println!(rt; "file {name}")?;
         for (place, row) in Rows::new(bytes.as_slice()).enumerate() {
             let number = place + 1;
@@ -212,7 +228,8 @@ impl<'a, 'b, S: Store + Drop> Followed<'a, 'b, S> {
     }
 }
 
-// Prints the store, and how many line slots its board has.
+/// Prints the kind of the store, its capacity, and how many line slots its board has. The store
+/// stays as it was.
 pub fn print_head<S: Store>(
     rt: &HostRuntime,
     store: &mut S,

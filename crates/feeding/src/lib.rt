@@ -1,4 +1,4 @@
-// Tasks in which controllers hear the rows of files, or the calls of scripts.
+//! Tasks in which controllers hear the rows of files, or the calls of scripts.
 #![tactic(auto)]
 
 pub mod extracts;

@@ -1,15 +1,17 @@
-// Scripts of calls, done to controllers over both stores.
-ghost use Rattle.std.specs.Prelude.{◌≡◌, ℕ, ◌<◌, ◌↔◌, IsTrue, IfOk, Ok, length, map, slice_get};
-ghost use Rattle.ordered.specs.Tables.{items};
+//! Scripts of calls, done to controllers over both stores.
+ghost use Rattle.std.specs.Prelude.{◌≡◌, ℕ, ◌<◌, ◌↔◌, IsTrue, IfOk, Ok, length, map, slice_get, IfErr, Err};
+ghost use Rattle.board.specs.Boards.{lines_of};
 ghost use Rattle.runs.specs.Runs.{call_meant};
 ghost use Rattle.scripts.specs.Histories.{told, histories_of};
 ghost use Rattle.scripts.specs.Steps.{call_of};
+ghost use Rattle.listing.specs.Errors.{NamesLine};
 
 use anyhow::anyhow;
 use board::display::{Board, StationDay};
 use board::line::Line;
 use controller::answer::Answer;
 use listing::boards::{empty_line, print_each, shown_lines};
+use listing::error::{TaskError, read_file};
 use listing::keeping::empty_record;
 use listing::rows::{Tally, print_calls};
 use runs::call::Call;
@@ -19,9 +21,7 @@ use scripts::history::History;
 use scripts::reading::{Unread, histories_in};
 use scripts::step::Step;
 use std::alloc::AllocError;
-use std::fs;
-use stores::bag::Bag;
-use stores::table::Table;
+use stores::{Bag, Table};
 use timetable::Store;
 use wording::answers::AnswerWords;
 use wording::words::Text;
@@ -35,9 +35,11 @@ struct Side<'a> {
 }
 
 impl<'a> Side<'a> {
+    // For the calls of a history.
     fn new(rt: &HostRuntime, history: &History, steps: &'a [Step]) -> Result<Side<'a>, AllocError>
         ensures lines { IfOk result (λ side. length side.lines.items ≡ history.now.slots) }
-        ensures calls { IfOk result (λ side. map call_meant side.calls.items ≡ map call_of steps.now) }
+        ensures calls { IfOk result
+            (λ side. map call_meant side.calls.items ≡ map call_of steps.now) }
         ensures answers { IfOk result (λ side. length side.answers.items ≡ length steps.now) }
     {
         let mut calls = Vec::new(rt.alloc());
@@ -114,8 +116,11 @@ fn print_end<S: Store>(
 
 // Whether two boards show the same lines, of so many at the most.
 fn is_same(left: &mut Board, right: &mut Board, most: usize) -> bool
-    ensures value { IsTrue result ↔ ((k : ℕ) → k < most → slice_get (items left.old.lines.elements) k ≡ slice_get (items right.old.lines.elements) k) }
-    ensures same { (left.new ≡ left.old) × (right.new ≡ right.old) }
+    ensures value { IsTrue result
+        ↔ ((k : ℕ) → k < most
+        → slice_get (lines_of left.old) k ≡ slice_get (lines_of right.old) k) }
+    ensures left { left.new ≡ left.old }
+    ensures right { right.new ≡ right.old }
 {
     for place in 0..most {
         if left.tell(place) != right.tell(place) {
@@ -159,6 +164,7 @@ fn print_ends<S: Store, T: Store>(
     Ok(())
 }
 
+// Prints how a history begins, and how many calls it has.
 fn print_head(
     rt: &HostRuntime,
     number: usize,
@@ -176,7 +182,8 @@ fn print_head(
     Ok(())
 }
 
-// What a run came to. It would hand its plan back only over a store that is not empty, or without a place for each answer.
+// What a run came to. It would hand its plan back only over a store that is not empty, or without a
+// place for each answer.
 fn ran<'a, S: Drop>(outcome: Result<Ran<'a, S>, Plan<'a, S>>) -> anyhow::Result<Ran<'a, S>> {
     match outcome {
         Ok(ran) => Ok(ran),
@@ -223,26 +230,31 @@ fn replay_over_both(
 }
 
 // The histories of a script, or an error that names the line that is none of a script.
-fn histories_of(rt: &HostRuntime, name: &str, script: &[u8]) -> anyhow::Result<Vec<History>>
-    ensures { IfOk result (λ histories. histories_of script.now ≡ Ok (map told histories.items)) }
+fn histories_of(rt: &HostRuntime, name: &str, script: &[u8]) -> Result<Vec<History>, TaskError>
+    ensures histories { IfOk result (λ histories.
+        histories_of script.now ≡ Ok (map told histories.items)) }
+    ensures slip { IfErr result (NamesLine name.now (λ number.
+        histories_of script.now ≡ Err number)) }
 {
     match histories_in(rt.alloc(), script) {
         Ok(histories) => Ok(histories),
         Err(Unread::Line(number)) => {
-            Err(anyhow!("script {name}, line {number}: no line of a script"))
+            Err(TaskError::Line(String::from_str(rt.alloc(), name)?, number))
         }
         Err(Unread::Memory(error)) => Err(error.into()),
     }
 }
 
-// Does the histories of a script, and prints what came of each call.
-pub fn print_script(rt: &HostRuntime, name: &str) -> anyhow::Result<()> {
-    let script = fs::read(rt, name)?;
+/// Does the histories of a script, and prints what came of each call. A script with a line that is
+/// none is refused as a whole.
+pub fn print_script(rt: &HostRuntime, name: &str) -> Result<(), TaskError> {
+    let script = read_file(rt, name)?;
     let histories = histories_of(rt, name, script.as_slice())?;
     println!(rt; "script {name}")?;
     let mut tally = Tally::new();
     for (place, history) in histories.iter().enumerate() {
         replay_over_both(rt, place + 1, history, &mut tally)?;
     }
-    print_calls(rt, histories.len() as u64, &tally)
+    print_calls(rt, histories.len() as u64, &tally)?;
+    Ok(())
 }

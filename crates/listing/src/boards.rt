@@ -1,22 +1,22 @@
-// The departure board of a station and date.
+//! The departure board of a station and date.
 ghost use Rattle.std.specs.Prelude.{◌≡◌, ◌*◌, min, length, IfOk};
-ghost use Rattle.ordered.specs.Tables.{items};
+ghost use Rattle.board.specs.Boards.{lines_of};
 ghost use Rattle.listing.specs.Stations.{filled_up};
 ghost use Rattle.listing.specs.Blanks.{blank_line};
 
 use crate::drafts::{Asked, Draft};
+use crate::error::{TaskError, read_file};
 use board::display::Board;
 use board::line::{Line, LineKey};
 use cif::reading::read;
 use cif::refusal::Refusal;
 use files::Rows;
 use std::alloc::AllocError;
-use std::fs;
 use tasks::Wanted;
 use timetable::{Store, Timetable};
 use wording::answers::LineWords;
 
-// A line for slots that hold nothing yet.
+/// A line for slots that hold nothing yet.
 pub fn empty_line() -> Line
     ensures { result ≡ blank_line }
 {
@@ -33,7 +33,8 @@ pub fn empty_line() -> Line
     }
 }
 
-// Line slots for a board of a store: twice as many as it can hold schedules. The store stays as it was.
+/// Line slots for a board of a store: twice as many as it can hold schedules. The store stays as it
+/// was.
 pub fn line_slots<S: Store>(rt: &HostRuntime, store: &mut S) -> Result<Vec<Line>, AllocError>
     ensures slots { IfOk result (λ slots. length slots.items ≡ 2 * (S.meaning store.old).capacity) }
     ensures same { store.new ≡ store.old }
@@ -55,11 +56,11 @@ fn is_refused<S: Store>(store: &mut S, asked: Asked) -> bool
     }
 }
 
-// Puts the schedules of a file into a store, and says how many were refused. Its capacity stays.
-pub fn load_file<S: Store>(rt: &HostRuntime, store: &mut S, name: &str) -> anyhow::Result<u64>
+/// Puts the schedules of a file into a store, and says how many were refused. Its capacity stays.
+pub fn load_file<S: Store>(rt: &HostRuntime, store: &mut S, name: &str) -> Result<u64, TaskError>
     ensures { (S.meaning store.new).capacity ≡ (S.meaning store.old).capacity }
 {
-    let bytes = fs::read(rt, name)?;
+    let bytes = read_file(rt, name)?;
     let mut draft = Draft::new();
     let mut refused: u64 = 0;
     for row in Rows::new(bytes.as_slice()) {
@@ -73,7 +74,8 @@ pub fn load_file<S: Store>(rt: &HostRuntime, store: &mut S, name: &str) -> anyho
     Ok(refused)
 }
 
-// A station's name filled up with blanks to seven bytes, where it has one to seven.
+/// A station's name filled up with blanks to seven bytes, where it has one to seven. Any other is
+/// left as it is.
 pub fn filled(rt: &HostRuntime, station: &str) -> Result<Vec<u8>, AllocError>
     ensures { IfOk result (λ name. name.items ≡ filled_up station.now) }
 {
@@ -84,22 +86,22 @@ pub fn filled(rt: &HostRuntime, station: &str) -> Result<Vec<u8>, AllocError>
     Ok(name)
 }
 
-// Prints a refusal by its number, after a word or none.
+/// Prints a refusal by its number, after a word or none.
 pub fn print_refused(rt: &HostRuntime, before: &str, refusal: Refusal) -> anyhow::Result<()> {
     let number = refusal.number();
     println!(rt; "{before}refused {number}: {refusal}")?;
     Ok(())
 }
 
-// How many lines a board shows, of so many at the most.
+/// How many lines a board shows, of so many at the most. The board stays as it was.
 pub fn shown_lines(shown: &mut Board, most: usize) -> u64
-    ensures value { result ≡ min most (length (items shown.old.lines.elements)) }
+    ensures value { result ≡ min most (length (lines_of shown.old)) }
     ensures same { shown.new ≡ shown.old }
 {
     most.min(shown.len()) as u64
 }
 
-// Prints the lines of a board in order, of so many at the most. The board stays as it was.
+/// Prints the lines of a board in order, of so many at the most. The board stays as it was.
 pub fn print_each(rt: &HostRuntime, shown: &mut Board, most: usize) -> anyhow::Result<()>
     ensures { shown.new ≡ shown.old }
 {
@@ -113,7 +115,8 @@ pub fn print_each(rt: &HostRuntime, shown: &mut Board, most: usize) -> anyhow::R
     Ok(())
 }
 
-// Prints the lines of a board in order, and how many there are. The board stays as it was.
+/// Prints the lines of a board in order, and how many there are, of so many at the most. The board
+/// stays as it was.
 pub fn print_lines(rt: &HostRuntime, shown: &mut Board, most: usize) -> anyhow::Result<()>
     ensures { shown.new ≡ shown.old }
 {
@@ -123,7 +126,8 @@ pub fn print_lines(rt: &HostRuntime, shown: &mut Board, most: usize) -> anyhow::
     Ok(())
 }
 
-// Turns a board to what is wanted so many times, if it can be turned to it. The store stays as it was.
+// Turns a board to what is wanted so many times, if it can be turned to it. The store stays as it
+// was.
 fn turned<'b, S: Store>(
     rt: &HostRuntime,
     store: &mut S,
@@ -146,7 +150,8 @@ fn turned<'b, S: Store>(
     Ok(Ok(shown))
 }
 
-// Turns a board to what is wanted and prints it, or why it cannot be turned. The store stays as it was.
+/// Turns a board to what is wanted and prints it, or why it cannot be turned. The store stays as it
+/// was.
 pub fn print_board<S: Store>(
     rt: &HostRuntime,
     store: &mut S,
@@ -175,7 +180,8 @@ pub fn print_board<S: Store>(
     print_lines(rt, &mut shown, most)
 }
 
-// Turns a board to what is wanted so many times, and prints how many lines it has. The store stays as it was.
+/// Turns a board to what is wanted so many times, and prints how many lines it has. The store stays
+/// as it was.
 pub fn print_turns<S: Store>(
     rt: &HostRuntime,
     store: &mut S,

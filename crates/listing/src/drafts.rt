@@ -1,50 +1,56 @@
-// Schedules put together from their rows, without the rules of extracts.
-ghost use Rattle.std.specs.Prelude.{◌≡◌, true, false};
-ghost use Rattle.std.specs.declared.option.Option.TheVariants.{None};
-ghost use Rattle.listing.specs.Drafts.{can_ask, is_terminus};
-
+//! Schedules put together from their rows, without the rules of extracts.
 use cif::content::{BasicSchedule, Change, Content, Location};
 use extract::asking::key_in;
 use forms::letters::Stp;
 use schedule::key::Key;
 use schedule::schedule::Schedule;
 
-// What rows ask of a store.
+/// What rows ask of a store.
 #[derive(Clone, Copy)]
 pub enum Asked {
+    /// Set the schedule of its key.
     Put(Schedule),
+    /// Set what is no schedule: its key alone is told.
     Unfit(Key),
+    /// Take a key out.
     Remove(Key),
 }
 
-// The schedule that is being read, if one was begun; of an unfit one, with a call too many, the key.
+/// The schedule that is being read, if one was begun; of one with a call too many, the key.
 #[derive(Clone, Copy)]
 pub struct Draft {
     begun: Option<Result<Schedule, Key>>,
 }
 
 impl Draft {
-    // No schedule is being read.
+    ghost use Rattle.std.specs.Prelude.{◌≡◌, None};
+    ghost use Rattle.std.specs.Bool.{OnTrue, OnFalse};
+    ghost use Rattle.listing.specs.Drafts.{ReadsNothing, can_ask, is_terminus};
+
+    /// No schedule is being read.
     pub fn new() -> Draft
-        ensures { result.begun ≡ None }
+        ensures { ReadsNothing result }
     {
         Draft { begun: None }
     }
 
+    // Adds a call, which may be one too many.
     fn call(&mut self, at: Location) {
         if let Some(Ok(schedule)) = self.begun {
             self.begun = Some(schedule.with_call(at).map_err(|_| schedule.key()));
         }
     }
 
+    // Sets the operator.
     fn operator(&mut self, operator: [u8; 2]) {
         if let Some(Ok(schedule)) = self.begun {
             self.begun = Some(Ok(schedule.with_operator(operator)));
         }
     }
 
+    // Ends the schedule at its destination, and gives what it asks if one was begun.
     fn end(&mut self, at: Location) -> Option<Asked>
-        ensures { self.new.begun ≡ None }
+        ensures { ReadsNothing self.new }
     {
         self.call(at);
         let asked = match self.begun.take()? {
@@ -54,10 +60,10 @@ impl Draft {
         Some(asked)
     }
 
-    // Takes a row, and says what it asks. After an LT no schedule is being read.
+    /// Takes a row, and says what it asks. After an LT no schedule is being read.
     pub fn take(&mut self, content: Content) -> Option<Asked>
-        ensures asks { can_ask content ≡ false → result ≡ None }
-        ensures ended { is_terminus content ≡ true → self.new.begun ≡ None }
+        ensures asks { OnFalse (can_ask content) (result ≡ None) }
+        ensures ended { OnTrue (is_terminus content) (ReadsNothing self.new) }
     {
         match content {
             Content::Schedule(basic) => {
@@ -74,6 +80,7 @@ impl Draft {
     }
 }
 
+// What a BS begins, and what it asks at once.
 fn begin(basic: &BasicSchedule) -> (Draft, Option<Asked>) {
     let key = key_in(basic);
     let days = match basic.change {

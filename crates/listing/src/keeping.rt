@@ -1,10 +1,9 @@
-// The schedules of files put into both stores.
-ghost use Rattle.std.specs.Prelude.{◌≡◌, true, min, [], length};
-ghost use Rattle.ordered.specs.Tables.{items, room};
+//! The schedules of files put into both stores.
+ghost use Rattle.std.specs.Prelude.{◌≡◌, min, [], length, IsTrue};
 ghost use Rattle.schedule.specs.Records.{is_schedule};
-ghost use Rattle.listing.specs.Keeping.{SameRooms};
 
 use crate::drafts::{Asked, Draft};
+use crate::error::{TaskError, read_file};
 use cif::reading::read;
 use files::Rows;
 use forms::letters::Stp;
@@ -12,15 +11,13 @@ use schedule::key::Key;
 use schedule::order::next_in_train;
 use schedule::record::Record;
 use schedule::schedule::Schedule;
-use std::fs;
-use stores::bag::Bag;
-use stores::table::Table;
+use stores::{Bag, Table};
 use timetable::{Store, Timetable};
 use wording::changes::{KeyWords, RecordWords};
 
-// The record of a cancellation that hides nothing, for slots that hold nothing yet.
+/// The record of a cancellation that hides nothing, for slots that hold nothing yet.
 pub fn empty_record() -> Record
-    ensures { is_schedule result ≡ true }
+    ensures { IsTrue (is_schedule result) }
 {
     let blank = Record::from(Schedule::blank());
     let key = Key {
@@ -35,6 +32,7 @@ fn agreed(table: bool, bag: bool) -> Option<bool> {
     if table == bag { Some(table) } else { None }
 }
 
+// The words for what both stores answered, or that they differ.
 fn told(agreed: Option<bool>, good: &'static str, bad: &'static str) -> &'static str {
     match agreed {
         Some(true) => good,
@@ -43,7 +41,7 @@ fn told(agreed: Option<bool>, good: &'static str, bad: &'static str) -> &'static
     }
 }
 
-// A table and a bag, which are asked the same.
+/// A table and a bag, which are asked the same.
 #[derive(Drop)]
 pub struct Both<'a> {
     table: Table<'a>,
@@ -51,11 +49,14 @@ pub struct Both<'a> {
 }
 
 impl<'a> Both<'a> {
-    // Two empty stores, each over its slots.
+    ghost use Rattle.listing.specs.Keeping.{table_records, bag_records, table_capacity, bag_capacity, CapacitiesKept};
+
+    /// Two empty stores, each over its slots, whatever they hold.
     pub fn new(table: &'a mut [Record], bag: &'a mut [Record]) -> Both<'a>
-        ensures empty { (items result.table.rows.elements ≡ []) × (items result.bag.rows.elements ≡ []) }
-        ensures table { room result.table.rows.elements ≡ min (length table.old) 65535 }
-        ensures bag { room result.bag.rows.elements ≡ min (length bag.old) 65535 }
+        ensures table_empty { table_records result ≡ [] }
+        ensures bag_empty { bag_records result ≡ [] }
+        ensures table { table_capacity result ≡ min (length table.old) 65535 }
+        ensures bag { bag_capacity result ≡ min (length bag.old) 65535 }
     {
         Both {
             table: Table::new(table),
@@ -63,24 +64,27 @@ impl<'a> Both<'a> {
         }
     }
 
+    // Puts a schedule into both stores.
     fn put(&mut self, schedule: Schedule) -> Option<bool>
-        ensures { SameRooms self.old self.new }
+        ensures { CapacitiesKept self.old self.new }
     {
         let table = self.table.put(schedule).is_ok();
         let bag = self.bag.put(schedule).is_ok();
         agreed(table, bag)
     }
 
+    // Takes a key out of both stores.
     fn remove(&mut self, key: Key) -> Option<bool>
-        ensures { SameRooms self.old self.new }
+        ensures { CapacitiesKept self.old self.new }
     {
         let table = self.table.remove(key);
         let bag = self.bag.remove(key);
         agreed(table, bag)
     }
 
+    // Does what is asked to both stores, and prints what came of it.
     fn do_asked(&mut self, rt: &HostRuntime, asked: Asked) -> anyhow::Result<()>
-        ensures { SameRooms self.old self.new }
+        ensures { CapacitiesKept self.old self.new }
     {
         match asked {
             Asked::Put(schedule) => {
@@ -101,11 +105,11 @@ impl<'a> Both<'a> {
         Ok(())
     }
 
-    // Does what the rows of a file ask. Both capacities stay.
-    pub fn take_file(&mut self, rt: &HostRuntime, name: &str) -> anyhow::Result<()>
-        ensures { SameRooms self.old self.new }
+    /// Does what the rows of a file ask to both stores. Both capacities stay.
+    pub fn take_file(&mut self, rt: &HostRuntime, name: &str) -> Result<(), TaskError>
+        ensures { CapacitiesKept self.old self.new }
     {
-        let bytes = fs::read(rt, name)?;
+        let bytes = read_file(rt, name)?;
         let mut draft = Draft::new();
         for row in Rows::new(bytes.as_slice()) {
             if let Ok(content) = read(row)
@@ -139,7 +143,7 @@ impl<'a> Both<'a> {
         Ok(same)
     }
 
-    // Lists both stores, which stay as they were.
+    /// Lists both stores, which stay as they were.
     pub fn print_stores(&mut self, rt: &HostRuntime) -> anyhow::Result<()>
         ensures { self.new ≡ self.old }
     {

@@ -1,15 +1,13 @@
-// Rows one by one: what each holds, or why it is turned away.
-ghost use Rattle.std.specs.Prelude.{◌≡◌, ℕ, ◌+◌, ◌<◌, ◌≢◌, min, slice_index, fold, true, is_ok, IfErr, IfSome};
-ghost use Rattle.cif.specs.Refusals.{number_of};
-ghost use Rattle.listing.specs.Tallies.{counted, refusal_told};
+//! Rows one by one: what each holds, or why it is turned away.
 
+use crate::error::{TaskError, read_file};
 use cif::content::Content;
 use cif::reading::read;
 use cif::refusal::{Refusal, RowFault};
 use controller::answer::Answer;
 use files::Rows;
+use std::io;
 use std::io::{BufWriter, Write};
-use std::{fs, io};
 use wording::rows::Words;
 use wording::words::FaultWords;
 
@@ -31,7 +29,8 @@ const REFUSALS: [Refusal; 15] = [
     Refusal::TooFewSlots,
 ];
 
-// How many rows were read or taken, and how many were refused with each number.
+/// How many rows or calls were done, and how many were refused with each number. A count that has
+/// come to 18,446,744,073,709,551,615 stays there.
 #[derive(Clone, Copy)]
 pub struct Tally {
     done: u64,
@@ -39,9 +38,14 @@ pub struct Tally {
 }
 
 impl Tally {
+    ghost use Rattle.std.specs.Prelude.{◌≡◌, ℕ, ◌+◌, ◌<◌, OnOk, IfErr, IfSome, IfNone};
+    ghost use Rattle.cif.specs.Refusals.{number_of};
+    ghost use Rattle.listing.specs.Tallies.{counted, done_count, refused_count, refused_total, with_done, with_refused, refusal_told};
+
+    /// Nothing was done or refused.
     pub fn new() -> Tally
-        ensures done { result.done ≡ 0 }
-        ensures refused { (k : ℕ) → slice_index result.refused k ≡ 0 }
+        ensures done { done_count result ≡ 0 }
+        ensures refused { (number : ℕ) → refused_count result number ≡ 0 }
     {
         Tally {
             done: 0,
@@ -49,16 +53,16 @@ impl Tally {
         }
     }
 
+    /// Counts one that was done.
     pub fn note_done(&mut self)
-        ensures { self.new ≡ record self.old { done = counted (self.old.done + 1) } }
+        ensures { self.new ≡ with_done self.old }
     {
         self.done = self.done.saturating_add(1);
     }
 
+    /// Counts one that was refused.
     pub fn note_refused(&mut self, refusal: Refusal)
-        ensures done { self.new.done ≡ self.old.done }
-        ensures here { slice_index self.new.refused (number_of refusal) ≡ counted (slice_index self.old.refused (number_of refusal) + 1) }
-        ensures others { (k : ℕ) → k ≢ number_of refusal → slice_index self.new.refused k ≡ slice_index self.old.refused k }
+        ensures { self.new ≡ with_refused self.old refusal }
     {
         let n = refusal.number() as usize;
         self.refused[n] = self.refused[n].saturating_add(1);
@@ -66,9 +70,9 @@ impl Tally {
 
     // Counts a row by what came of it.
     fn note(&mut self, outcome: &Result<Content, RowFault>)
-        ensures read { is_ok outcome.now ≡ true → self.new ≡ record self.old { done = counted (self.old.done + 1) } }
-        ensures refused { IfErr outcome.now (λ e. slice_index self.new.refused (number_of e.fault.refusal) ≡ counted (slice_index self.old.refused (number_of e.fault.refusal) + 1)) }
-        ensures others { IfErr outcome.now (λ e. (k : ℕ) → k ≢ number_of e.fault.refusal → slice_index self.new.refused k ≡ slice_index self.old.refused k) }
+        ensures read { OnOk outcome.now (self.new ≡ with_done self.old) }
+        ensures refused { IfErr outcome.now
+            (λ fault. self.new ≡ with_refused self.old fault.fault.refusal) }
     {
         match outcome {
             Ok(_) => self.note_done(),
@@ -76,11 +80,11 @@ impl Tally {
         }
     }
 
-    // Counts a call by its answer.
+    /// Counts a call by its answer.
     pub fn note_answer(&mut self, answer: &Answer)
-        ensures done { refusal_told answer.now ≡ None → self.new ≡ record self.old { done = counted (self.old.done + 1) } }
-        ensures refused { IfSome (refusal_told answer.now) (λ r. slice_index self.new.refused (number_of r) ≡ counted (slice_index self.old.refused (number_of r) + 1)) }
-        ensures others { IfSome (refusal_told answer.now) (λ r. (self.new.done ≡ self.old.done) × ((k : ℕ) → k ≢ number_of r → slice_index self.new.refused k ≡ slice_index self.old.refused k)) }
+        ensures done { IfNone (refusal_told answer.now) (self.new ≡ with_done self.old) }
+        ensures refused { IfSome (refusal_told answer.now)
+            (λ refusal. self.new ≡ with_refused self.old refusal) }
     {
         match answer {
             Answer::Refused(fault) => self.note_refused(fault.fault.fault.refusal),
@@ -88,9 +92,12 @@ impl Tally {
         }
     }
 
+    /// Adds the counts of another tally.
     pub fn add(&mut self, other: &Tally)
-        ensures done { self.new.done ≡ counted (self.old.done + other.now.done) }
-        ensures refused { (k : ℕ) → k < 16 → slice_index self.new.refused k ≡ counted (slice_index self.old.refused k + slice_index other.now.refused k) }
+        ensures done { done_count self.new ≡ counted (done_count self.old + done_count other.now) }
+        ensures refused { (number : ℕ) → number < 16
+            → refused_count self.new number
+            ≡ counted (refused_count self.old number + refused_count other.now number) }
     {
         self.done = self.done.saturating_add(other.done);
         for (k, count) in self.refused.iter_mut().enumerate() {
@@ -100,14 +107,14 @@ impl Tally {
 
     // How many rows were refused with a number.
     fn times(&self, refusal: Refusal) -> u64
-        ensures { result ≡ slice_index self.now.refused (number_of refusal) }
+        ensures { result ≡ refused_count self.now (number_of refusal) }
     {
         self.refused[refusal.number() as usize]
     }
 
     // How many rows were refused at all.
     fn all_refused(&self) -> u64
-        ensures { result ≡ fold (λ all n. counted (all + n)) 0 self.now.refused }
+        ensures { result ≡ refused_total self.now }
     {
         self.refused
             .iter()
@@ -116,12 +123,13 @@ impl Tally {
 
     // How many rows there were.
     fn rows(&self) -> u64
-        ensures { result ≡ counted (self.now.done + fold (λ all n. counted (all + n)) 0 self.now.refused) }
+        ensures { result ≡ counted (done_count self.now + refused_total self.now) }
     {
         self.done.saturating_add(self.all_refused())
     }
 }
 
+// Writes what a row holds, or why it is turned away, behind its number in its file.
 fn write_row<W: Write + Drop>(
     out: &mut W,
     number: usize,
@@ -140,9 +148,9 @@ fn write_row<W: Write + Drop>(
     }
 }
 
-// Prints each row of a file, and how many there were.
-pub fn print_file(rt: &HostRuntime, name: &str) -> anyhow::Result<Tally> {
-    let bytes = fs::read(rt, name)?;
+/// Prints each row of a file, and how many there were, and gives the tally of them.
+pub fn print_file(rt: &HostRuntime, name: &str) -> Result<Tally, TaskError> {
+    let bytes = read_file(rt, name)?;
     let mut out = BufWriter::new(rt.alloc(), io::writer(rt))?;
     writeln!(out, "file {name}")?;
     let mut tally = Tally::new();
@@ -159,12 +167,12 @@ pub fn print_file(rt: &HostRuntime, name: &str) -> anyhow::Result<Tally> {
     Ok(tally)
 }
 
-// Prints what came of all files, and each number that was told.
+/// Prints what came of the rows of all files, and each number that was told.
 pub fn print_total(rt: &HostRuntime, files: u64, total: &Tally) -> anyhow::Result<()> {
     print_outcome(rt, files, "read", total)
 }
 
-// The same, where rows were not only read: the verb says what was done with them.
+/// The same, where rows were not only read: the verb says what was done with them.
 pub fn print_outcome(
     rt: &HostRuntime,
     files: u64,
@@ -178,7 +186,7 @@ pub fn print_outcome(
     print_refusals(rt, total)
 }
 
-// Prints what came of the calls of all histories, and each number that was told.
+/// Prints what came of the calls of all histories, and each number that was told.
 pub fn print_calls(rt: &HostRuntime, histories: u64, total: &Tally) -> anyhow::Result<()> {
     let calls = total.rows();
     let done = total.done;

@@ -4,8 +4,7 @@ use controller::fault::ExtractFault;
 use schedule::record::Record;
 use schedule::schedule::Schedule;
 use std::process::Abort;
-use stores::bag::Bag;
-use stores::table::Table;
+use stores::{Bag, Table};
 use timetable::Store;
 
 // A row that begins with a text and has a byte in column 80, and blanks elsewhere.

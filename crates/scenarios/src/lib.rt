@@ -1,17 +1,19 @@
-// Examples of what stores and extracts do, run as tests.
+//! Examples of what stores and extracts do, run as tests.
 #![tactic(auto)]
 
-ghost use Rattle.std.specs.Prelude.{◌≡◌, false, MatchOption};
-ghost use Rattle.forms.specs.declared.letters.Stp.TheVariants.{Permanent};
+ghost use Rattle.std.specs.Prelude.{◌≡◌, IfSome, IfNone};
+ghost use Rattle.std.specs.Bool.{IsFalse};
 ghost use Rattle.schedule.specs.Records.{in_range, is_schedule};
-ghost use Rattle.scenarios.specs.Samples.{sample};
+ghost use Rattle.schedule.specs.Schedules.{record_of};
+ghost use Rattle.scenarios.specs.Samples.{sample, permanent_sample};
 
 use forms::letters::Stp;
 use schedule::key::Key;
 use schedule::record::Record;
 use schedule::schedule::Schedule;
 
-/// A schedule's record with no calls.
+/// The record of a train's schedule, by its UID number, that runs every day from the day `from` to
+/// the day `to`, both day numbers, as 1A23 with no calls. It need not be one of a schedule.
 pub fn record(uid: u32, from: u16, stp: Stp, to: u16) -> Record
     ensures { result ≡ sample (record { uid = uid; from = from; stp = stp }) to }
 {
@@ -24,16 +26,21 @@ pub fn record(uid: u32, from: u16, stp: Stp, to: u16) -> Record
     }
 }
 
-/// A permanent schedule of a train that runs on one day.
+/// A permanent schedule of a train, by its UID number, that runs on one day, a day number. There is
+/// none where the UID number is 2,600,000 or more, or the day above 36,524.
 pub fn one_day(uid: u32, day: u16) -> Option<Schedule>
-    ensures { let r = sample (record { uid = uid; from = day; stp = Permanent }) day in MatchOption result (is_schedule r ≡ false) (λ s. s.plain ≡ r) }
+    ensures schedule { IfSome result (λ s. record_of s ≡ permanent_sample uid day day) }
+    ensures none { IfNone result (IsFalse (is_schedule (permanent_sample uid day day))) }
 {
     Schedule::try_from(record(uid, day, Stp::Permanent, day)).ok()
 }
 
-/// A permanent schedule of a train that runs every day of a time, if it is one.
+/// A permanent schedule of a train, by its UID number, that runs every day from the day `from` to
+/// the day `to`, both day numbers. There is none where the UID number is 2,600,000 or more, `to`
+/// above 36,524 or before `from`.
 pub fn permanent(uid: u32, from: u16, to: u16) -> Option<Schedule>
-    ensures { let r = sample (record { uid = uid; from = from; stp = Permanent }) to in MatchOption result (in_range r ≡ false) (λ s. s.plain ≡ r) }
+    ensures schedule { IfSome result (λ s. record_of s ≡ permanent_sample uid from to) }
+    ensures none { IfNone result (IsFalse (in_range (permanent_sample uid from to))) }
 {
     let stp = Stp::Permanent;
     Schedule::begun(Key { uid, from, stp }, to, [true; 7], *b"1A23")
@@ -47,8 +54,7 @@ mod tests {
     use super::*;
     use std::process::Abort;
     use std::test::Fail;
-    use stores::bag::Bag;
-    use stores::table::Table;
+    use stores::{Bag, Table};
     use timetable::{Store, Timetable};
 
     fn key(uid: u32, day: u16) -> Key {

@@ -1,5 +1,5 @@
 -- The histories that the lines of a script tell.
-use Rattle.std.specs.Prelude.{ℕ, ◌+◌, cond, List, [], ◌∷◌, ◌++◌, map, Some, None, Option, Ok, Err, Result, ◌==◌}
+use Rattle.std.specs.Prelude.{ℕ, ◌+◌, if◌then◌else◌, List, [], ◌∷◌, ◌++◌, map, Some, None, Option, Ok, Err, Result, ◌==◌}
 use Rattle.std.specs.Option.{option_map}
 use Rattle.forms.specs.Bytes.{and_then}
 use Rattle.controller.specs.Calls.{Call}
@@ -7,7 +7,8 @@ use Rattle.scripts.specs.declared.history.History.{History}
 use Rattle.scripts.specs.Steps.{call_of}
 use Rattle.scripts.specs.Lines.{Says, Nothing, New, Other, Asks, says}
 
--- a history: how many slots and line slots, the calls, and those of the bag's controller where it has its own
+-- a history: how many slots and line slots, the calls, and those of the bag's controller where it
+-- has its own
 pub record Told : Type 0 where
   pub capacity : ℕ
   pub slots : ℕ
@@ -16,7 +17,13 @@ pub record Told : Type 0 where
 
 -- the history that a value holds
 abbrev pub told : History → Told
-told h = record { capacity = h.capacity; slots = h.slots; calls = map call_of h.calls.items; other = option_map (λ v. map call_of v.items) h.other }
+told h =
+    record {
+      capacity = h.capacity;
+      slots = h.slots;
+      calls = map call_of h.calls.items;
+      other = option_map (λ v. map call_of v.items) h.other;
+    }
 
 -- a history without calls
 abbrev pub begun : ℕ → ℕ → Told
@@ -29,7 +36,11 @@ calls_with call calls (Some other) = calls
 
 -- a history with one more call, among those of the bag's controller where it has its own
 abbrev pub with_call : Call → Told → Told
-with_call call h = record { capacity = h.capacity; slots = h.slots; calls = calls_with call h.calls h.other; other = option_map (λ other. other ++ call ∷ []) h.other }
+with_call call h =
+    record h {
+      calls = calls_with call h.calls h.other;
+      other = option_map (λ other. other ++ call ∷ []) h.other;
+    }
 
 -- the bag's controller begins with no calls of its own, once in a history
 abbrev pub first_other : Option (List Call) → Option (List Call)
@@ -38,15 +49,17 @@ first_other (Some other) = None
 
 -- a history with calls of the bag's controller from here on
 abbrev pub with_other : Told → Option Told
-with_other h = option_map (λ other. record { capacity = h.capacity; slots = h.slots; calls = h.calls; other = Some other }) (first_other h.other)
+with_other h = option_map (λ other. record h { other = Some other }) (first_other h.other)
 
 -- histories with the last one changed, where there is one and the change may be
 abbrev pub on_last : (Told → Option Told) → List Told → Option (List Told)
 on_last change [] = None
 on_last change (h ∷ []) = option_map (λ changed. changed ∷ []) (change h)
-on_last change (h ∷ next ∷ more) = option_map (λ changed. h ∷ changed) (on_last change (next ∷ more))
+on_last change (h ∷ next ∷ more) =
+    option_map (λ changed. h ∷ changed) (on_last change (next ∷ more))
 
--- the histories after a line, by those before it and what it says, if it may stand there: a call and `other` stand behind a `new`
+-- the histories after a line, by those before it and what it says, if it may stand there: a call
+-- and `other` stand behind a `new`
 abbrev pub after : List Told → Says → Option (List Told)
 after histories Nothing = Some histories
 after histories (New capacity slots) = Some (histories ++ begun capacity slots ∷ [])
@@ -61,18 +74,23 @@ before_first c (line ∷ lines) = (c ∷ line) ∷ lines
 -- the lines of a text: a line ends at a line feed, and a last one without it counts
 abbrev pub lines_of : List ℕ → List (List ℕ)
 lines_of [] = []
-lines_of (c ∷ cs) = cond (c == 10) ([] ∷ lines_of cs) (before_first c (lines_of cs))
+lines_of (c ∷ cs) = if c == 10 then [] ∷ lines_of cs else before_first c (lines_of cs)
 
 -- what follows the histories after a line, or the number of a line that may not stand where it does
-abbrev pub or_line : ℕ → Option (List Told) → (List Told → Result (List Told) ℕ) → Result (List Told) ℕ
+abbrev pub or_line :
+    ℕ → Option (List Told) → (List Told → Result (List Told) ℕ) → Result (List Told) ℕ
 or_line number (Some histories) following = following histories
 or_line number None following = Err number
 
--- the histories after some lines, by those before them, or the number of the first line that is none of a script or stands where it may not
+-- the histories after some lines, by those before them, or the number of the first line that is
+-- none of a script or stands where it may not
 abbrev pub after_all : ℕ → List Told → List (List ℕ) → Result (List Told) ℕ
 after_all number histories [] = Ok histories
-after_all number histories (line ∷ lines) = or_line number (and_then (says line) (after histories)) (λ next. after_all (number + 1) next lines)
+after_all number histories (line ∷ lines) =
+    or_line number (and_then (says line) (after histories))
+    (λ next. after_all (number + 1) next lines)
 
--- the histories of a script, whose lines are counted from 1, or the number of the first line that is none or stands where it may not
+-- the histories of a script, whose lines are counted from 1, or the number of the first line that
+-- is none or stands where it may not
 abbrev pub histories_of : List ℕ → Result (List Told) ℕ
 histories_of script = after_all 1 [] (lines_of script)

@@ -1,5 +1,5 @@
 -- What the lines of a script say.
-use Rattle.std.specs.Prelude.{ℕ, cond, List, [], ◌∷◌, Some, None, Option, codes, ◌==◌}
+use Rattle.std.specs.Prelude.{ℕ, if◌then◌else◌, List, [], ◌∷◌, Some, None, Option, codes, ◌==◌}
 use Rattle.std.specs.Option.{option_map}
 use Rattle.std.specs.Str.{bytes_eq}
 use Rattle.forms.specs.Bytes.{and_then}
@@ -12,12 +12,12 @@ use Rattle.scripts.specs.Steps.{call_of}
 -- the word that a line begins with: what stands before the first blank
 abbrev pub word_in : List ℕ → List ℕ
 word_in [] = []
-word_in (c ∷ cs) = cond (c == 32) [] (c ∷ word_in cs)
+word_in (c ∷ cs) = if c == 32 then [] else c ∷ word_in cs
 
 -- what stands behind the first blank, if there is one
 abbrev pub behind_word : List ℕ → Option (List ℕ)
 behind_word [] = None
-behind_word (c ∷ cs) = cond (c == 32) (Some cs) (behind_word cs)
+behind_word (c ∷ cs) = if c == 32 then Some cs else behind_word cs
 
 -- what follows a word, or the empty text where nothing does
 abbrev pub or_empty : Option (List ℕ) → List ℕ
@@ -29,46 +29,57 @@ abbrev pub alone : {X : Type 0} → X → Option (List ℕ) → Option X
 alone x None = Some x
 alone x (Some rest) = None
 
--- the call turn that a text asks for: a day, and behind a blank the station, which may be empty and then left out with the blank
+-- the call turn that a text asks for: a day, and behind a blank the station, which may be empty and
+-- then left out with the blank
 abbrev pub turn_in : List ℕ → Option Call
 turn_in rest =
-    and_then (number_up_to 4294967295 (word_in rest)) (λ day. option_map (λ station. Turn station day) (meant (or_empty (behind_word rest))))
+    and_then (number_up_to 4294967295 (word_in rest)) (λ day.
+    option_map (λ station. Turn station day) (meant (or_empty (behind_word rest))))
+
+-- the call tell that a text asks for: a place
+abbrev pub tell_in : List ℕ → Option Call
+tell_in place = option_map Tell (number_up_to 18446744073709551615 place)
 
 -- the call that a word and what follows it ask for
 abbrev pub call_in : List ℕ → Option (List ℕ) → Option Call
 call_in word rest =
-    cond (bytes_eq word (codes "open")) (option_map Open (meant (or_empty rest)))
-    (cond (bytes_eq word (codes "row")) (option_map Row (meant (or_empty rest)))
-    (cond (bytes_eq word (codes "confirm")) (alone Confirm rest)
-    (cond (bytes_eq word (codes "abandon")) (alone Abandon rest)
-    (cond (bytes_eq word (codes "turn")) (and_then rest turn_in)
-    (cond (bytes_eq word (codes "tell")) (and_then rest (λ place. option_map Tell (number_up_to 18446744073709551615 place)))
-    (cond (bytes_eq word (codes "tally")) (alone Tally rest)
-    None))))))
+    if bytes_eq word (codes "open") then option_map Open (meant (or_empty rest))
+    else (if bytes_eq word (codes "row") then option_map Row (meant (or_empty rest))
+    else (if bytes_eq word (codes "confirm") then alone Confirm rest
+    else (if bytes_eq word (codes "abandon") then alone Abandon rest
+    else (if bytes_eq word (codes "turn") then and_then rest turn_in
+    else (if bytes_eq word (codes "tell") then and_then rest tell_in
+    else (if bytes_eq word (codes "tally") then alone Tally rest
+    else None))))))
 
--- what a line says: nothing, that a history begins, that the bag's controller gets the calls that follow, or a call
+-- what a line says: nothing, that a history begins, that the bag's controller gets the calls that
+-- follow, or a call
 pub data Says : Type 0 where
   Nothing : Says
   New : ℕ → ℕ → Says
   Other : Says
   Asks : Call → Says
 
--- the history that begins with its slots, 65,536 at most, and behind a blank its line slots, 131,072 at most
+-- the history that begins with its slots, 65,536 at most, and behind a blank its line slots,
+-- 131,072 at most
 abbrev pub new_in : List ℕ → Option Says
 new_in numbers =
-    and_then (number_up_to 65536 (word_in numbers)) (λ capacity. and_then (behind_word numbers) (λ rest. option_map (New capacity) (number_up_to 131072 rest)))
+    and_then (number_up_to 65536 (word_in numbers)) (λ capacity.
+    and_then (behind_word numbers) (λ rest. option_map (New capacity) (number_up_to 131072 rest)))
 
 -- what a word and what follows it say
 abbrev pub said_by : List ℕ → Option (List ℕ) → Option Says
 said_by word rest =
-    cond (bytes_eq word (codes "new")) (and_then rest new_in)
-    (cond (bytes_eq word (codes "other")) (alone Other rest)
-    (option_map Asks (call_in word rest)))
+    if bytes_eq word (codes "new") then and_then rest new_in
+    else (if bytes_eq word (codes "other") then alone Other rest
+    else option_map Asks (call_in word rest))
 
--- what a line says, if it is one of a script: an empty line and one that begins with `#` are passed over
+-- what a line says, if it is one of a script: an empty line and one that begins with `#` are passed
+-- over
 abbrev pub says : List ℕ → Option Says
 says [] = Some Nothing
-says (c ∷ cs) = cond (c == 35) (Some Nothing) (said_by (word_in (c ∷ cs)) (behind_word (c ∷ cs)))
+says (c ∷ cs) =
+    if c == 35 then Some Nothing else said_by (word_in (c ∷ cs)) (behind_word (c ∷ cs))
 
 -- what a line that has been read says
 abbrev pub says_of : Said → Says

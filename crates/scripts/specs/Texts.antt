@@ -1,5 +1,5 @@
 -- What texts and digits of a script stand for.
-use Rattle.std.specs.Prelude.{ℕ, ◌+◌, ◌-◌, ◌*◌, ◌&&◌, Bool, cond, List, [], ◌∷◌, Some, None, Option, ◌==◌, nat_le}
+use Rattle.std.specs.Prelude.{ℕ, ◌+◌, ◌-◌, ◌*◌, ◌&&◌, Bool, if◌then◌else◌, List, [], ◌∷◌, Some, None, Option, ◌==◌, nat_le}
 use Rattle.std.specs.Option.{option_map}
 use Rattle.forms.specs.Bytes.{and_then, provided}
 use Rattle.forms.specs.Forms.{number_in}
@@ -11,10 +11,10 @@ between least most n = nat_le least n && nat_le n most
 -- the value of a hexadecimal digit of either case
 abbrev pub hex_value : ℕ → Option ℕ
 hex_value c =
-    cond (between 48 57 c) (Some (c - 48))
-    (cond (between 97 102 c) (Some (c - 87))
-    (cond (between 65 70 c) (Some (c - 55))
-    None))
+    if between 48 57 c then Some (c - 48)
+    else (if between 97 102 c then Some (c - 87)
+    else (if between 65 70 c then Some (c - 55)
+    else None))
 
 -- the byte that two hexadecimal digits write
 abbrev pub hex_byte : ℕ → ℕ → Option ℕ
@@ -26,22 +26,25 @@ escaped [] = None
 escaped (high ∷ []) = None
 escaped (high ∷ low ∷ rest) = option_map (λ b. (b, rest)) (hex_byte high low)
 
--- the byte that a text begins with, and the text behind it: a `\` begins an escaped byte, every other byte stands for itself
+-- the byte that a text begins with, and the text behind it: a `\` begins an escaped byte, every
+-- other byte stands for itself
 abbrev pub first_meant : List ℕ → Option (ℕ × List ℕ)
 first_meant [] = None
-first_meant (b ∷ rest) = cond (b == 92) (escaped rest) (Some (b, rest))
+first_meant (b ∷ rest) = if b == 92 then escaped rest else Some (b, rest)
 
 abbrev mutual
   -- the bytes that a text stands for, one after another
   pub meant : List ℕ → Option (List ℕ)
   meant [] = Some []
-  meant (b ∷ rest) = cond (b == 92) (meant_escaped rest) (option_map (λ bs. b ∷ bs) (meant rest))
+  meant (b ∷ rest) =
+      if b == 92 then meant_escaped rest else option_map (λ bs. b ∷ bs) (meant rest)
 
   -- those of a text that stands behind a `\`
   pub meant_escaped : List ℕ → Option (List ℕ)
   meant_escaped [] = None
   meant_escaped (high ∷ []) = None
-  meant_escaped (high ∷ low ∷ rest) = and_then (hex_byte high low) (λ b. option_map (λ bs. b ∷ bs) (meant rest))
+  meant_escaped (high ∷ low ∷ rest) =
+      and_then (hex_byte high low) (λ b. option_map (λ bs. b ∷ bs) (meant rest))
 
 -- a number where it is not above a limit
 abbrev pub at_most : ℕ → Option ℕ → Option ℕ

@@ -1,4 +1,4 @@
-// Scripts of calls: what their lines ask for.
+//! Scripts of calls: what their lines ask for.
 #![tactic(auto)]
 
 pub mod history;

@@ -1,5 +1,6 @@
-// The lines of a script, read one after another.
-ghost use Rattle.std.specs.Prelude.{◌≡◌, ℕ, true, false, map, Some, None, Ok, Err, option_map, IfOk};
+//! The lines of a script, read one after another.
+ghost use Rattle.std.specs.Prelude.{◌≡◌, ℕ, map, Some, None, Ok, Err, option_map, IfOk};
+ghost use Rattle.std.specs.Bool.{OnTrue, OnFalse};
 ghost use Rattle.scripts.specs.Histories.{told, after, histories_of};
 ghost use Rattle.scripts.specs.Lines.{says_of, new_in, turn_in, call_in, says};
 ghost use Rattle.scripts.specs.Steps.{call_of};
@@ -11,9 +12,10 @@ use crate::text::{meant, number_up_to, split_blank};
 use files::Rows;
 use std::alloc::{AllocError, Global};
 
-// How many slots a store may have, and how many line slots a board.
+// How many slots a store may have.
 const MOST_SLOTS: u64 = 65_536;
 
+// How many line slots a board may have.
 const MOST_LINES: u64 = 131_072;
 
 // What a line of a script says.
@@ -50,7 +52,8 @@ fn turn_in(alloc: Global, rest: &[u8]) -> Result<Option<Step>, AllocError>
 
 // The call that a word and what follows it ask for, if they ask for one.
 fn step_in(alloc: Global, word: &str, rest: Option<&[u8]>) -> Result<Option<Step>, AllocError>
-    ensures { IfOk result (λ step. option_map call_of step ≡ call_in word.now (option_map (λ text. text.now) rest.entry)) }
+    ensures { IfOk result (λ step. option_map call_of step
+        ≡ call_in word.now (option_map (λ text. text.now) rest.entry)) }
 {
     let step = match (word, rest) {
         ("open", _) => meant(alloc, rest.unwrap_or(&[]))?.map(Step::Open),
@@ -88,9 +91,13 @@ fn said_in(alloc: Global, line: &[u8]) -> Result<Option<Said>, AllocError>
 
 // Adds what a line says to the histories before it, and says whether it may stand there.
 fn take(alloc: Global, histories: &mut Vec<History>, said: Said) -> Result<bool, AllocError>
-    ensures taken { IfOk result (λ taken. taken ≡ true → after (map told histories.old.items) (says_of said) ≡ Some (map told histories.new.items)) }
-    ensures refused { IfOk result (λ taken. taken ≡ false → after (map told histories.old.items) (says_of said) ≡ None) }
-    ensures unchanged { IfOk result (λ taken. taken ≡ false → histories.new.items ≡ histories.old.items) }
+    ensures taken { IfOk result (λ taken. OnTrue taken
+        (after (map told histories.old.items) (says_of said)
+        ≡ Some (map told histories.new.items))) }
+    ensures refused { IfOk result (λ taken. OnFalse taken
+        (after (map told histories.old.items) (says_of said) ≡ None)) }
+    ensures unchanged { IfOk result
+        (λ taken. OnFalse taken (histories.new.items ≡ histories.old.items)) }
 {
     match said {
         Said::Nothing => {}
@@ -112,10 +119,13 @@ fn take(alloc: Global, histories: &mut Vec<History>, said: Said) -> Result<bool,
     Ok(true)
 }
 
-// Why a script is not read: a line, by its number, or no memory.
+/// Why a script is not read.
 #[derive(Drop)]
 pub enum Unread {
+    /// The first line that is none of a script or stands where it may not, by its number, counted
+    /// from 1.
     Line(usize),
+    /// There is no memory.
     Memory(AllocError),
 }
 
@@ -127,10 +137,13 @@ impl From<AllocError> for Unread {
     }
 }
 
-// The histories of a script. A line that is none of a script, or stands where it may not, is told by its number.
+/// The histories of a script, any bytes. The first line that is none of a script, or stands where
+/// it may not, is told by its number.
 pub fn histories_in(alloc: Global, script: &[u8]) -> Result<Vec<History>, Unread>
-    ensures histories { IfOk result (λ histories. histories_of script.now ≡ Ok (map told histories.items)) }
-    ensures unread { (number : ℕ) → result ≡ Err (Line number) → histories_of script.now ≡ Err number }
+    ensures histories { IfOk result
+        (λ histories. histories_of script.now ≡ Ok (map told histories.items)) }
+    ensures unread { (number : ℕ) → result ≡ Err (Line number)
+        → histories_of script.now ≡ Err number }
 {
     let mut histories = Vec::new(alloc);
     for (place, line) in Rows::new(script).enumerate() {

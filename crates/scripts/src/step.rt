@@ -1,24 +1,32 @@
-// The calls that a script asks for.
+//! The calls that a script asks for.
 ghost use Rattle.std.specs.Prelude.{◌≡◌};
 ghost use Rattle.runs.specs.Runs.{asked};
 ghost use Rattle.scripts.specs.Steps.{call_of, word_of};
 
 use runs::call::Call;
 
-// A call that a script asks for, with what it is given.
+/// A call that a script asks for, with what it is given.
 #[derive(Drop)]
 pub enum Step {
+    /// Open an extract with the bytes of a row.
     Open(Vec<u8>),
+    /// Hear the bytes of a row.
     Row(Vec<u8>),
+    /// Confirm the extract.
     Confirm,
+    /// Abandon the extract.
     Abandon,
+    /// Turn the board to a day, by its number, and a station, by the bytes of its TIPLOC; either
+    /// may be none that there is.
     Turn(u32, Vec<u8>),
+    /// Tell the line at a place counted from 0.
     Tell(usize),
+    /// Tell the tally.
     Tally,
 }
 
 impl Step {
-    // The word that asks for it.
+    /// The word that asks for it.
     pub fn word(&self) -> &'static str
         ensures { result.now ≡ word_of self.now }
     {
@@ -33,7 +41,7 @@ impl Step {
         }
     }
 
-    // The call that it asks for.
+    /// The call that it asks for.
     pub fn call(&self) -> Call<'_>
         ensures { asked result ≡ call_of self.now }
     {

@@ -1,4 +1,4 @@
-// What texts and digits stand for.
+//! What texts and digits stand for.
 ghost use Rattle.std.specs.Prelude.{◌≡◌, ◌<◌, ◌≤◌, length, option_map, IfOk, IfSome};
 ghost use Rattle.scripts.specs.Lines.{word_in, behind_word};
 ghost use Rattle.scripts.specs.Texts.{hex_value, first_meant, meant, number_up_to};
@@ -18,7 +18,8 @@ fn hex_digit(digit: u8) -> Option<u8>
     }
 }
 
-// The first byte that a text stands for, and the text behind it. A `\` and two hexadecimal digits stand for one byte.
+// The first byte that a text stands for, and the text behind it. A `\` and two hexadecimal digits
+// stand for one byte.
 fn first_meant(text: &[u8]) -> Option<(u8, &[u8])>
     ensures meant { option_map (λ first. (first.0, first.1.now)) result ≡ first_meant text.now }
     ensures shorter { IfSome result (λ first. length first.1.now < length text.now) }

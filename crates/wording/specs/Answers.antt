@@ -12,7 +12,8 @@ abbrev pub refused_text : ExtractFault → List ℕ
 refused_text f = fault_text f.fault ++ codes ", row " ++ decimal f.row
     ++ codes ": " ++ words_of f.fault.fault.refusal
 
--- a line of a board tells the departure time, the destination, the platform, the operator and the identity
+-- a line of a board tells the departure time, the destination, the platform, the operator and the
+-- identity
 abbrev pub line_text : Line → List ℕ
 line_text l = clock_text l.key.minute ++ codes " " ++ text_of l.destination
     ++ codes " platform " ++ text_of l.platform ++ codes " operator " ++ text_of l.operator

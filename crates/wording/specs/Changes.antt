@@ -11,10 +11,12 @@ use Rattle.wording.specs.Texts.{text_of, uid_text, days_text}
 abbrev pub key_text : Key → List ℕ
 key_text k = uid_text k.uid ++ codes " " ++ stp_letter k.stp ∷ codes " day " ++ decimal k.from
 
--- a schedule is told by its key, its last day, the days it runs, its identity, operator and destination, and how many calls it keeps
+-- a schedule is told by its key, its last day, the days it runs, its identity, operator and
+-- destination, and how many calls it keeps
 abbrev pub record_text : Record → List ℕ
-record_text r = key_text r.key ++ codes " to day " ++ decimal r.to ++ codes ", runs " ++ days_text r.days
-    ++ codes ", identity \"" ++ text_of r.train ++ codes "\", operator \"" ++ text_of r.operator
+record_text r = key_text r.key ++ codes " to day " ++ decimal r.to
+    ++ codes ", runs " ++ days_text r.days ++ codes ", identity \"" ++ text_of r.train
+    ++ codes "\", operator \"" ++ text_of r.operator
     ++ codes "\", destination \"" ++ text_of r.destination ++ codes "\", calls " ++ decimal r.count
 
 -- a transaction is told by what it does, and by its schedule or key

@@ -23,7 +23,8 @@ train_text n = uid_text n ++ codes " (number " ++ decimal n ++ codes ")"
 
 -- a day is told by its number and its weekday, which is Monday for 0 and Sunday from 6 on
 abbrev pub day_text : ℕ × ℕ → List ℕ
-day_text day = codes "day " ++ decimal day.0 ++ codes " (" ++ get_or weekdays day.1 (codes "Sunday") ++ codes ")"
+day_text day = codes "day " ++ decimal day.0
+    ++ codes " (" ++ get_or weekdays day.1 (codes "Sunday") ++ codes ")"
 
 -- a public time follows its verb, and where there is none its noun says so
 abbrev pub time_text : List ℕ → List ℕ → Option ℕ → List ℕ
@@ -64,7 +65,8 @@ runs_text (New running) = running_text running
 runs_text (Revise running) = running_text running
 runs_text Delete = []
 
--- a schedule is told by what is done with it, its train, its STP letter, its first day, and how the train runs
+-- a schedule is told by what is done with it, its train, its STP letter, its first day, and how the
+-- train runs
 abbrev pub schedule_text : BasicSchedule → List ℕ
 schedule_text s = verb_text s.change ++ codes " schedule: train " ++ train_text s.uid ++ codes ", "
     ++ kind_text s.stp ++ codes ", from " ++ day_text s.from ++ runs_text s.change
@@ -84,8 +86,9 @@ departure_text at = time_text (codes "departs") (codes "departure") at.departure
 -- a place is told by its TIPLOC and suffix, its public times, and its platform
 abbrev pub location_text : List ℕ → Location → Bool → Bool → List ℕ
 location_text role at arrives departs = role ++ codes " \"" ++ text_of at.tiploc
-    ++ codes "\", suffix \"" ++ encode_utf8 at.suffix ++ codes "\"" ++ told_text arrives (arrival_text at)
-    ++ told_text departs (departure_text at) ++ codes ", platform \"" ++ text_of at.platform ++ codes "\""
+    ++ codes "\", suffix \"" ++ encode_utf8 at.suffix ++ codes "\""
+    ++ told_text arrives (arrival_text at) ++ told_text departs (departure_text at)
+    ++ codes ", platform \"" ++ text_of at.platform ++ codes "\""
 
 -- the words for each row of which no field is read, the last those of ZZ
 abbrev pub unread_text : Identity → List ℕ
@@ -94,7 +97,7 @@ unread_text LocationInsert = codes "location inserted"
 unread_text LocationAmend = codes "location amended"
 unread_text LocationDelete = codes "location deleted"
 unread_text Association = codes "association"
-unread_text other = codes "end of the extract"
+unread_text _ = codes "end of the extract"
 
 -- a row is told by its identity and what its fields hold
 abbrev pub content_text : Content → List ℕ

@@ -1,4 +1,4 @@
-// What calls answer, in plain words.
+//! What calls answer, in plain words.
 ghost use Rattle.std.specs.Prelude.{Some};
 ghost use Rattle.wording.specs.Answers.{refused_text, line_text, answer_text};
 
@@ -9,7 +9,8 @@ use controller::fault::ExtractFault;
 use std::fmt;
 use std::fmt::{Display, Formatter};
 
-// Why a call was turned away, with the number of the row.
+/// Displays why a call was turned away: the fault, the number of the row, which is 0 where the call
+/// was given none, and the words for the refusal.
 #[derive(Clone, Copy)]
 pub struct RefusedWords<'a>(pub &'a ExtractFault);
 
@@ -24,7 +25,8 @@ impl Display for RefusedWords<'_> {
     }
 }
 
-// A line of a board.
+/// Displays a line of a board: its departure as hours and minutes, two digits each, then
+/// destination, platform, operator and identity.
 #[derive(Clone, Copy)]
 pub struct LineWords<'a>(pub &'a Line);
 
@@ -45,7 +47,8 @@ impl Display for LineWords<'_> {
     }
 }
 
-// The answer to a call.
+/// Displays the answer to a call: `done`, why it was refused, the line that was told or `none`, or
+/// the tally.
 #[derive(Clone, Copy)]
 pub struct AnswerWords<'a>(pub &'a Answer);
 

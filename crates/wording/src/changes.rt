@@ -1,4 +1,4 @@
-// Keys, schedules and transactions, in plain words.
+//! Keys, schedules and transactions, in plain words.
 ghost use Rattle.std.specs.Prelude.{Some};
 ghost use Rattle.wording.specs.Changes.{key_text, record_text, change_text};
 
@@ -9,7 +9,7 @@ use schedule::transaction::Change;
 use std::fmt;
 use std::fmt::{Display, Formatter};
 
-// A schedule's key.
+/// Displays the key of a schedule: the UID, the STP letter, and the number of the first day.
 #[derive(Clone, Copy)]
 pub struct KeyWords(pub Key);
 
@@ -25,7 +25,8 @@ impl Display for KeyWords {
     }
 }
 
-// A schedule on one line.
+/// Displays a schedule on one line: its key, the number of its last day, the days run, identity,
+/// operator and destination, and how many calls it has.
 #[derive(Clone, Copy)]
 pub struct RecordWords<'a>(pub &'a Record);
 
@@ -48,7 +49,8 @@ impl Display for RecordWords<'_> {
     }
 }
 
-// A transaction on one line.
+/// Displays a transaction on one line: `new` or `revised` and the schedule, or `deleted` and the
+/// key.
 #[derive(Clone, Copy)]
 pub struct ChangeWords<'a>(pub &'a Change);
 

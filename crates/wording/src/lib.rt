@@ -1,4 +1,4 @@
-// How rows, schedules, transactions and answers are said in plain words.
+//! How rows, schedules, transactions and answers are said in plain words.
 #![tactic(auto)]
 
 pub mod answers;

@@ -1,4 +1,4 @@
-// What rows hold, in plain words.
+//! What rows hold, in plain words.
 ghost use Rattle.std.specs.Prelude.{◌≡◌, Some};
 ghost use Rattle.std.specs.Fmt.{DisplaysOnOk};
 ghost use Rattle.wording.specs.Rows.{train_text, day_text, time_text, coverage_text, header_text, kind_text, verb_text, schedule_text, running_text, told_text, location_text, unread_text, content_text};
@@ -61,6 +61,7 @@ impl Display for Time {
     }
 }
 
+// The kind of schedule that an STP letter stands for.
 fn kind(stp: Stp) -> &'static str
     ensures { result.now ≡ kind_text stp }
 {
@@ -72,6 +73,7 @@ fn kind(stp: Stp) -> &'static str
     }
 }
 
+// How much of the timetable an extract covers.
 fn coverage(coverage: Coverage) -> &'static str
     ensures { result.now ≡ coverage_text coverage }
 {
@@ -81,6 +83,7 @@ fn coverage(coverage: Coverage) -> &'static str
     }
 }
 
+// What is done with a schedule.
 fn verb(change: &Change) -> &'static str
     ensures { result.now ≡ verb_text change.now }
 {
@@ -91,6 +94,7 @@ fn verb(change: &Change) -> &'static str
     }
 }
 
+// A header, by its references and how much it covers.
 #[derive(Clone, Copy)]
 struct HeaderWords<'a>(&'a Header);
 
@@ -108,6 +112,7 @@ impl Display for HeaderWords<'_> {
     }
 }
 
+// A BS row.
 #[derive(Clone, Copy)]
 struct ScheduleWords<'a>(&'a BasicSchedule);
 
@@ -127,6 +132,7 @@ impl Display for ScheduleWords<'_> {
     }
 }
 
+// How a train runs, behind its first day.
 fn write_running<W: fmt::Write>(f: &mut Formatter<W>, running: &Running) -> fmt::Result
     ensures { DisplaysOnOk W.write_str_gives f.old result (Some (running_text running.now)) f.new }
 {
@@ -138,7 +144,8 @@ fn write_running<W: fmt::Write>(f: &mut Formatter<W>, running: &Running) -> fmt:
 
 // A time after a comma, where there is one to tell.
 fn write_time<W: fmt::Write>(f: &mut Formatter<W>, told: bool, time: Time) -> fmt::Result
-    ensures { DisplaysOnOk W.write_str_gives f.old result (Some (told_text told (time_text time.0.now time.1.now time.2))) f.new }
+    ensures { DisplaysOnOk W.write_str_gives f.old result
+        (Some (told_text told (time_text time.0.now time.1.now time.2))) f.new }
 {
     if told {
         write!(f, ", {time}")?;
@@ -154,7 +161,8 @@ fn write_location<W: fmt::Write>(
     arrives: bool,
     departs: bool,
 ) -> fmt::Result
-    ensures { DisplaysOnOk W.write_str_gives f.old result (Some (location_text role.now at.now arrives departs)) f.new }
+    ensures { DisplaysOnOk W.write_str_gives f.old result
+        (Some (location_text role.now at.now arrives departs)) f.new }
 {
     let tiploc = Text(&at.tiploc);
     let suffix = at.suffix as char;
@@ -165,6 +173,7 @@ fn write_location<W: fmt::Write>(
     write!(f, ", platform \"{platform}\"")
 }
 
+// What a row is of which no field is read.
 fn unread(identity: Identity) -> &'static str
     ensures { result.now ≡ unread_text identity }
 {
@@ -178,7 +187,8 @@ fn unread(identity: Identity) -> &'static str
     }
 }
 
-// What a row holds.
+/// Displays what a row holds: the letters of its identity, and then its fields, or that no field is
+/// read.
 #[derive(Clone, Copy)]
 pub struct Words<'a>(pub &'a Content);
 

@@ -1,4 +1,4 @@
-// Texts, UIDs, days, faults and stages, in plain words.
+//! Texts, UIDs, days, faults and stages, in plain words.
 ghost use Rattle.std.specs.Prelude.{◌≡◌, Some};
 ghost use Rattle.wording.specs.Texts.{text_of, uid_text, days_text, fault_text};
 ghost use Rattle.wording.specs.Words.{stage_named};
@@ -8,6 +8,7 @@ use extract::stage::Stage;
 use std::fmt;
 use std::fmt::{Display, Formatter};
 
+// The weekdays in order, from 0.
 pub(crate) const WEEKDAYS: [&str; 7] = [
     "Monday",
     "Tuesday",
@@ -18,7 +19,8 @@ pub(crate) const WEEKDAYS: [&str; 7] = [
     "Sunday",
 ];
 
-// Bytes as they stand.
+/// Displays bytes, each as the character of its number, so that bytes of ASCII are written as they
+/// stand.
 #[derive(Clone, Copy)]
 pub struct Text<'a>(pub &'a [u8]);
 
@@ -33,7 +35,9 @@ impl Display for Text<'_> {
     }
 }
 
-// A UID, made again from its number.
+/// Displays a UID by its number: a letter, `A` for the numbers below 100,000, `B` for the next
+/// 100,000 and so on, and five digits. From 2,600,000 on, which no UID has, the letters begin
+/// again.
 #[derive(Clone, Copy)]
 pub struct Uid(pub u32);
 
@@ -47,7 +51,8 @@ impl Display for Uid {
     }
 }
 
-// The days of the week on which a train runs, each by its first three letters.
+/// Displays the days of the week on which a train runs, Monday first: the first three letters of
+/// each with a blank between two, or `on no day`.
 #[derive(Clone, Copy)]
 pub struct DaysRun<'a>(pub &'a [bool; 7]);
 
@@ -70,7 +75,8 @@ impl Display for DaysRun<'_> {
     }
 }
 
-// A fault by its number, column and identity.
+/// Displays a fault of a row: the number of its refusal, its column, counted from 1 or 0 for none,
+/// and the row's identity.
 #[derive(Clone, Copy)]
 pub struct FaultWords<'a>(pub &'a RowFault);
 
@@ -88,7 +94,7 @@ impl Display for FaultWords<'_> {
     }
 }
 
-// The name of a stage, by which it is told from every other.
+/// The name of a stage in small letters. No two stages have the same.
 pub fn stage_name(stage: Stage) -> &'static str
     ensures { stage_named result.now ≡ Some stage }
 {

@@ -17,7 +17,7 @@ returns-then-not-taken-clause-unread c number e =
     elim c.match-branch-2.branch [
       | in-Some-2+in_ok-taken-in-Some-2 w ↦
           let says = sym c.in_ok-said.ensures ∙ ap (option_map says_of) w.in-Some-2.is in
-          let refused = w.in_ok-taken-in-Some-2.ensures.refused (sym w.taken-is ∙ c.if-not-taken.true) in
+          let refused = rw (sym w.taken-is ∙ c.if-not-taken.true) at w.in_ok-taken-in-Some-2.ensures.refused in
           sym c.loop-place.invariant ∙ line_refused n before text c.in-Some.line.now rest _ steps.0.0 steps.0.1 steps.0.2 says refused ∙ ap (λ (k : ℕ). Err k) at
       | in-None-2 w ↦
           let says = sym c.in_ok-said.ensures ∙ ap (option_map says_of) w.in-None-2.is in
@@ -34,7 +34,7 @@ loop-place-preserved c =
     elim c.match-branch-2.branch [
       | in-Some-2+in_ok-taken-in-Some-2 w ↦
           let says = sym c.in_ok-said.ensures ∙ ap (option_map says_of) w.in-Some-2.is in
-          let taken = w.in_ok-taken-in-Some-2.ensures.taken (sym w.taken-is ∙ c.if-not-taken.false) in
+          let taken = rw (sym w.taken-is ∙ c.if-not-taken.false) at w.in_ok-taken-in-Some-2.ensures.taken in
           let turn = line_taken n before (map told w.take.new.histories.items) text c.in-Some.line.now rest _ steps.0.0 steps.0.1 steps.0.2 says taken in
           ap (λ (k : ℕ). after_all (k + 1) (map told c.match-branch-2.histories.items) (lines_of rest)) steps.2
           ∙ ap (λ h. after_all (n + 1) (map told h.items) (lines_of rest)) w.histories-is

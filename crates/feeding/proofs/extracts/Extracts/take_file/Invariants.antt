@@ -1,5 +1,7 @@
 use Rattle.std.proofs.Common.{◌≡◌}
+use Rattle.controller.specs.Shown.{store_of}
+use Rattle.feeding.specs.Taking.{controller_of}
 use Rattle.feeding.proofs.extracts.Extracts.take_file.Given as goal
 
 abbrev pub invariant-loop-place : goal.invariant-loop-place
-invariant-loop-place g l = l.self.controller.overlay.store ≡ l.initial.self.controller.overlay.store
+invariant-loop-place g l = store_of (controller_of l.self) ≡ store_of (controller_of l.initial.self)

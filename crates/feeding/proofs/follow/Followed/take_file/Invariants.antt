@@ -2,4 +2,4 @@ use Rattle.feeding.specs.Following.{Follows}
 use Rattle.feeding.proofs.follow.Followed.take_file.Given as goal
 
 abbrev pub invariant-loop-place : goal.invariant-loop-place
-invariant-loop-place g l = Follows (g.S.Timetable.meaning l.initial.self).map → Follows (g.S.Timetable.meaning l.self).map
+invariant-loop-place g l = Follows g.S.Timetable.meaning l.initial.self → Follows g.S.Timetable.meaning l.self
