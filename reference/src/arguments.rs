@@ -1,6 +1,7 @@
 //! What the command line asks for.
 
-use crate::{board, extract, generate, run};
+use crate::{board, extract, generate};
+use std::collections::HashMap;
 use std::ffi::{OsStr, OsString};
 use std::str::FromStr;
 
@@ -8,10 +9,10 @@ pub const USAGE: &str = "\
 usage: reference run [--store STORE] [--capacity CAPACITY] STATION DATE FILE...
        reference replay SCRIPT...
        reference rows FILE...
-       reference stores CAPACITY FILE...
-       reference board STORE CAPACITY STATION DATE FILE...
-       reference turns COUNT STORE CAPACITY STATION DATE FILE...
-       reference extract STORE CAPACITY STATION DATE BASE FILE...
+       reference stores [--capacity CAPACITY] FILE...
+       reference board [--store STORE] [--capacity CAPACITY] STATION DATE FILE...
+       reference turns [--store STORE] [--capacity CAPACITY] COUNT STATION DATE FILE...
+       reference extract [--store STORE] [--capacity CAPACITY] [--base FILE] STATION DATE FILE...
        reference generate SEED COUNT
        reference generate-schedules SEED COUNT
        reference generate-extracts SEED COUNT
@@ -19,6 +20,9 @@ usage: reference run [--store STORE] [--capacity CAPACITY] STATION DATE FILE...
 
 /// The most slots that the command line can ask for.
 const MOST_SLOTS: usize = 65_536;
+
+/// The slots that a store has where none are asked for.
+const USUAL_SLOTS: usize = 2_000;
 
 pub enum Command {
     Run(board::Request, Vec<OsString>),
@@ -42,24 +46,36 @@ pub fn commands(arguments: &[OsString]) -> Option<Vec<Command>> {
 /// The command the arguments make, or `None` where they make none.
 fn command(arguments: &[OsString]) -> Option<Command> {
     let (name, rest) = arguments.split_first()?;
-    match (name.to_str()?, rest) {
-        ("run", rest) => run(rest),
-        ("replay", [_, ..]) => Some(Command::Replay(rest.to_vec())),
-        ("rows", [_, ..]) => Some(Command::Rows(rest.to_vec())),
-        ("stores", [slots, names @ ..]) if !names.is_empty() => Some(Command::Stores {
-            slots: slots_of(slots)?,
-            names: names.to_vec(),
+    let name = name.to_str()?;
+    let options: &[&str] = match name {
+        "run" | "board" | "turns" => &["store", "capacity"],
+        "stores" => &["capacity"],
+        "extract" => &["store", "capacity", "base"],
+        _ => &[],
+    };
+    let (mut given, words) = sorted_out(options, rest)?;
+    match (name, words.as_slice()) {
+        ("replay", [_, ..]) => Some(Command::Replay(words)),
+        ("rows", [_, ..]) => Some(Command::Rows(words)),
+        ("stores", [_, ..]) => Some(Command::Stores {
+            slots: slots_of(&given)?,
+            names: words,
         }),
-        ("board", [kind, slots, station, date, names @ ..]) if !names.is_empty() => Some(
-            Command::Board(request(kind, slots, station, date)?, names.to_vec()),
-        ),
-        ("turns", [times, kind, slots, station, date, names @ ..]) if !names.is_empty() => {
-            let request = request(kind, slots, station, date)?;
+        ("run", [station, date, names @ ..]) if !names.is_empty() => Some(Command::Run(
+            request(&given, station, date)?,
+            names.to_vec(),
+        )),
+        ("board", [station, date, names @ ..]) if !names.is_empty() => Some(Command::Board(
+            request(&given, station, date)?,
+            names.to_vec(),
+        )),
+        ("turns", [times, station, date, names @ ..]) if !names.is_empty() => {
+            let request = request(&given, station, date)?;
             Some(Command::Turns(number(times)?, request, names.to_vec()))
         }
-        ("extract", [kind, slots, station, date, base, names @ ..]) if !names.is_empty() => {
-            let board = request(kind, slots, station, date)?;
-            let base = base.to_owned();
+        ("extract", [station, date, names @ ..]) if !names.is_empty() => {
+            let board = request(&given, station, date)?;
+            let base = given.remove("base");
             let request = extract::Request { board, base };
             Some(Command::Extract(request, names.to_vec()))
         }
@@ -72,37 +88,52 @@ fn command(arguments: &[OsString]) -> Option<Command> {
     }
 }
 
-/// The options, each at most once and in any order, then station, date and files.
-fn run(arguments: &[OsString]) -> Option<Command> {
-    let (mut kind, mut slots, mut left) = (None, None, arguments);
-    while let [option, value, rest @ ..] = left {
-        match option.to_str() {
-            Some("--store") if kind.is_none() => kind = Some(board::Kind::named(value)?),
-            Some("--capacity") if slots.is_none() => slots = Some(slots_of(value)?),
-            Some("--store" | "--capacity") => return None,
-            _ => break,
+/// The values of options by their names.
+type Given = HashMap<&'static str, OsString>;
+
+/// The options among the arguments, each at most once, and the other words in order.
+fn sorted_out(options: &[&'static str], arguments: &[OsString]) -> Option<(Given, Vec<OsString>)> {
+    let mut given = Given::new();
+    let mut words = Vec::new();
+    let mut arguments = arguments.iter();
+    while let Some(argument) = arguments.next() {
+        if !looks_like_an_option(argument) {
+            words.push(argument.clone());
+            continue;
         }
-        left = rest;
-    }
-    match left {
-        [station, date, names @ ..] if !names.is_empty() => {
-            let request = board::Request {
-                kind: kind.unwrap_or(board::Kind::Table),
-                slots: slots.unwrap_or(run::SLOTS),
-                station: station.to_owned(),
-                date: date.to_owned(),
-            };
-            Some(Command::Run(request, names.to_vec()))
+        let option = argument.to_str()?.strip_prefix("--")?;
+        let (option, value) = match option.split_once('=') {
+            Some((option, value)) => (option, OsString::from(value)),
+            None => {
+                let value = arguments.next()?;
+                (
+                    option,
+                    Some(value).filter(|it| !looks_like_an_option(it))?.clone(),
+                )
+            }
+        };
+        let known = options.iter().find(|known| **known == option)?;
+        if given.insert(known, value).is_some() {
+            return None;
         }
-        _ => None,
     }
+    Some((given, words))
 }
 
-/// The board that these arguments ask for.
-fn request(kind: &OsStr, slots: &OsStr, station: &OsStr, date: &OsStr) -> Option<board::Request> {
+/// Whether an argument begins with `-` and is longer.
+fn looks_like_an_option(argument: &OsStr) -> bool {
+    argument.len() > 1 && argument.as_encoded_bytes()[0] == b'-'
+}
+
+/// The board that these options and arguments ask for.
+fn request(given: &Given, station: &OsStr, date: &OsStr) -> Option<board::Request> {
+    let kind = match given.get("store") {
+        Some(store) => board::Kind::named(store)?,
+        None => board::Kind::Table,
+    };
     Some(board::Request {
-        kind: board::Kind::named(kind)?,
-        slots: slots_of(slots)?,
+        kind,
+        slots: slots_of(given)?,
         station: station.to_owned(),
         date: date.to_owned(),
     })
@@ -113,46 +144,89 @@ fn number<N: FromStr>(argument: &OsStr) -> Option<N> {
     argument.to_str()?.parse().ok()
 }
 
-/// The number of slots that an argument asks for.
-fn slots_of(argument: &OsStr) -> Option<usize> {
-    number(argument).filter(|&slots| slots <= MOST_SLOTS)
+/// The number of slots that the options ask for.
+fn slots_of(given: &Given) -> Option<usize> {
+    match given.get("capacity") {
+        Some(capacity) => number(capacity).filter(|&slots| slots <= MOST_SLOTS),
+        None => Some(USUAL_SLOTS),
+    }
 }
 
 #[cfg(test)]
 mod tests {
     use super::*;
 
-    /// Store, slots and files of the run that these words ask for.
-    fn run_of(words: &str) -> Option<(board::Kind, usize, usize)> {
+    fn made(words: &str) -> Option<Command> {
         let arguments: Vec<OsString> = words.split(' ').map(OsString::from).collect();
-        match command(&arguments)? {
-            Command::Run(request, names) => Some((request.kind, request.slots, names.len())),
+        command(&arguments)
+    }
+
+    /// Store, slots and files of the board that these words ask for.
+    fn board_of(words: &str) -> Option<(board::Kind, usize, usize)> {
+        match made(words)? {
+            Command::Run(request, names)
+            | Command::Board(request, names)
+            | Command::Turns(_, request, names) => Some((request.kind, request.slots, names.len())),
+            Command::Extract(request, names) => {
+                Some((request.board.kind, request.board.slots, names.len()))
+            }
             _ => None,
         }
     }
 
     #[test]
-    fn the_options_of_run() {
+    fn options_stand_anywhere() {
         use board::Kind::{Bag, Table};
         let all = [
             ("run HALTA 240304 a b", (Table, 2_000, 2)),
             ("run --store bag HALTA 240304 a", (Bag, 2_000, 1)),
             ("run --capacity 0 --store table A 1 a", (Table, 0, 1)),
-            ("run --store bag --capacity 65536 A 1 a", (Bag, 65_536, 1)),
-            ("run A 1 --store bag", (Table, 2_000, 2)),
+            ("run --store=bag --capacity=65536 A 1 a", (Bag, 65_536, 1)),
+            ("run A 1 a --store bag", (Bag, 2_000, 1)),
+            ("run A --capacity +7 1 a -", (Table, 7, 2)),
+            ("board --store bag A 1 a", (Bag, 2_000, 1)),
+            ("turns 3 --capacity 9 A 1 a", (Table, 9, 1)),
+            ("extract --base b A 1 a c", (Table, 2_000, 2)),
         ];
         for (words, expected) in all {
-            assert_eq!(run_of(words), Some(expected));
+            assert_eq!(board_of(words), Some(expected), "{words}");
         }
+    }
+
+    #[test]
+    fn words_that_ask_for_nothing() {
         for words in [
             "run HALTA 240304",
             "run --store bag HALTA 240304",
+            "run HALTA 240304 --store bag",
             "run --store shelf HALTA 240304 a",
             "run --capacity 65537 HALTA 240304 a",
             "run --store bag --store bag HALTA 240304 a",
             "run --capacity 1 --store bag --capacity 1 HALTA 240304 a",
+            "run --base b HALTA 240304 a",
+            "run HALTA 240304 -a",
+            "rows --store bag a",
+            "stores --store bag a",
+            "stores --capacity -1 a",
+            "stores --capacity",
+            "turns x HALTA 240304 a",
+            "rows",
         ] {
-            assert_eq!(run_of(words), None);
+            assert!(made(words).is_none(), "{words}");
+        }
+    }
+
+    #[test]
+    fn the_base_and_the_slots() {
+        let base_of = |words| match made(words) {
+            Some(Command::Extract(request, _)) => request.base,
+            _ => None,
+        };
+        assert_eq!(base_of("extract --base b A 1 a"), Some("b".into()));
+        assert_eq!(base_of("extract A 1 a"), None);
+        match made("stores a --capacity 10 b") {
+            Some(Command::Stores { slots, names }) => assert_eq!((slots, names.len()), (10, 2)),
+            _ => panic!("no stores"),
         }
     }
 }

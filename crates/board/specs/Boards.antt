@@ -11,12 +11,12 @@ shown_of b = b.shown
 
 -- its lines, in order
 abbrev pub lines_of : Board → List Line
-lines_of b = items b.lines.inner
+lines_of b = items b.lines.elements
 
 -- how many line slots it has
 abbrev pub slots_of : Board → ℕ
-slots_of b = room b.lines.inner
+slots_of b = room b.lines.elements
 
 -- the slots past the lines that it now has keep what they had, and none is lost
 abbrev pub SlotsKept : Board → Board → Type 0
-SlotsKept before after = RestKept before.lines.inner after.lines.inner
+SlotsKept before after = RestKept before.lines.elements after.lines.elements

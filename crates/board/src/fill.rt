@@ -132,14 +132,14 @@ pub(crate) fn set_lines<T: Timetable>(
     lines: &mut Ordered<'_, Line>,
     shown: &StationDay,
 )
-    requires room { 2 * length (T.meaning timetable.old).map ≤ room lines.old.inner }
+    requires room { 2 * length (T.meaning timetable.old).map ≤ room lines.old.elements }
     ensures board { BoardOf (T.meaning timetable.old).map shown.now.station shown.now.day
-        (items lines.new.inner) }
-    ensures few { length (items lines.new.inner) ≤ 2 * length (T.meaning timetable.old).map }
-    ensures rest { RestKept lines.old.inner lines.new.inner }
-    ensures room { room lines.new.inner ≡ room lines.old.inner }
+        (items lines.new.elements) }
+    ensures few { length (items lines.new.elements) ≤ 2 * length (T.meaning timetable.old).map }
+    ensures rest { RestKept lines.old.elements lines.new.elements }
+    ensures room { room lines.new.elements ≡ room lines.old.elements }
     ensures same { timetable.new ≡ timetable.old }
 {
-    gather_lines(timetable, &mut lines.inner, shown);
-    lines.inner.sort();
+    gather_lines(timetable, &mut lines.elements, shown);
+    lines.elements.sort();
 }

@@ -41,7 +41,7 @@ impl Board<'_> {
         self.suits(store)?;
         match self.shown {
             Some(shown) => set_lines(store, &mut self.lines, &shown),
-            None => self.lines.inner.len = 0,
+            None => self.lines.elements.len = 0,
         }
         Ok(())
     }

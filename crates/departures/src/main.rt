@@ -4,45 +4,52 @@
 use feeding::extracts::Extracts;
 use feeding::follow::Followed;
 use feeding::{extracts, follow, replay};
+use listing::error::TaskError;
 use listing::keeping::Both;
 use listing::{boards, keeping, rows};
 use std::env;
-use stores::bag::Bag;
-use stores::table::Table;
-use tasks::{StoreKind, Task, Wanted, Work};
+use std::process::ExitCode;
+use stores::{Bag, Table};
+use tasks::{NoTask, StoreKind, Task, Wanted, Work, tasks_in};
 use timetable::Store;
 
-fn run_rows(rt: &HostRuntime, files: &[String]) -> anyhow::Result<()> {
+fn run_rows(rt: &HostRuntime, files: &[&str]) -> Result<(), TaskError> {
     let mut total = rows::Tally::new();
     for name in files {
-        let tally = rows::print_file(rt, name.as_str())?;
+        let tally = rows::print_file(rt, name)?;
         total.add(&tally);
     }
-    rows::print_total(rt, files.len() as u64, &total)
+    rows::print_total(rt, files.len() as u64, &total)?;
+    Ok(())
 }
 
-fn run_stores(rt: &HostRuntime, slots: usize, files: &[String]) -> anyhow::Result<()> {
+fn run_stores(rt: &HostRuntime, slots: usize, files: &[&str]) -> Result<(), TaskError> {
     let blank = keeping::empty_record();
     let mut first = vec![in rt.alloc(); blank; slots]?;
     let mut second = vec![in rt.alloc(); blank; slots]?;
     let mut both = Both::new(first.as_mut_slice(), second.as_mut_slice());
     for name in files {
-        both.take_file(rt, name.as_str())?;
+        both.take_file(rt, name)?;
     }
-    both.print_stores(rt)
+    both.print_stores(rt)?;
+    Ok(())
 }
 
 // Puts the schedules of files into a store, and says how many were refused.
-fn load_files<S: Store>(rt: &HostRuntime, store: &mut S, files: &[String]) -> anyhow::Result<u64> {
+fn load_files<S: Store>(
+    rt: &HostRuntime,
+    store: &mut S,
+    files: &[&str],
+) -> Result<u64, TaskError> {
     let mut refused: u64 = 0;
     for name in files {
-        refused = refused.saturating_add(boards::load_file(rt, store, name.as_str())?);
+        refused = refused.saturating_add(boards::load_file(rt, store, name)?);
     }
     Ok(refused)
 }
 
 // Does work over an empty store of the kind that is wanted.
-fn run_over_store(rt: &HostRuntime, wanted: Wanted, work: Work) -> anyhow::Result<()> {
+fn run_over_store(rt: &HostRuntime, wanted: Wanted, work: &Work) -> Result<(), TaskError> {
     let mut slots = vec![in rt.alloc(); keeping::empty_record(); wanted.slots]?;
     match wanted.store {
         StoreKind::Table => run_work(rt, Table::new(slots.as_mut_slice()), wanted, work),
@@ -52,24 +59,43 @@ fn run_over_store(rt: &HostRuntime, wanted: Wanted, work: Work) -> anyhow::Resul
 
 fn run_work<S: Store + Drop>(
     rt: &HostRuntime,
+    store: S,
+    wanted: Wanted,
+    work: &Work,
+) -> Result<(), TaskError> {
+    match work {
+        Work::Board(files) => run_board(rt, store, wanted, files.as_slice()),
+        Work::Turns(times, files) => run_turns(rt, store, wanted, *times, files.as_slice()),
+        Work::Extracts(base, files) => run_extracts(rt, store, wanted, *base, files.as_slice()),
+        Work::Run(files) => run_followed(rt, store, wanted, files.as_slice()),
+    }
+}
+
+// Puts the schedules of the files into a store, and prints the board.
+fn run_board<S: Store + Drop>(
+    rt: &HostRuntime,
     mut store: S,
     wanted: Wanted,
-    work: Work,
-) -> anyhow::Result<()> {
-    match work {
-        Work::Board(files) => {
-            let refused = load_files(rt, &mut store, files)?;
-            let mut lines = boards::line_slots(rt, &mut store)?;
-            boards::print_board(rt, &mut store, lines.as_mut_slice(), wanted, refused)
-        }
-        Work::Turns(times, files) => {
-            let _ = load_files(rt, &mut store, files)?;
-            let mut lines = boards::line_slots(rt, &mut store)?;
-            boards::print_turns(rt, &mut store, lines.as_mut_slice(), wanted, times)
-        }
-        Work::Extracts(base, files) => run_extracts(rt, store, wanted, base, files),
-        Work::Run(files) => run_followed(rt, store, wanted, files),
-    }
+    files: &[&str],
+) -> Result<(), TaskError> {
+    let refused = load_files(rt, &mut store, files)?;
+    let mut lines = boards::line_slots(rt, &mut store)?;
+    boards::print_board(rt, &mut store, lines.as_mut_slice(), wanted, refused)?;
+    Ok(())
+}
+
+// Puts the schedules of the files into a store, and turns the board so many times.
+fn run_turns<S: Store + Drop>(
+    rt: &HostRuntime,
+    mut store: S,
+    wanted: Wanted,
+    times: u64,
+    files: &[&str],
+) -> Result<(), TaskError> {
+    let _ = load_files(rt, &mut store, files)?;
+    let mut lines = boards::line_slots(rt, &mut store)?;
+    boards::print_turns(rt, &mut store, lines.as_mut_slice(), wanted, times)?;
+    Ok(())
 }
 
 // Loads the base into a store, and takes the extracts of the files over it.
@@ -78,8 +104,8 @@ fn run_extracts<S: Store + Drop>(
     mut store: S,
     wanted: Wanted,
     base: Option<&str>,
-    files: &[String],
-) -> anyhow::Result<()> {
+    files: &[&str],
+) -> Result<(), TaskError> {
     let refused = match base {
         Some(base) => boards::load_file(rt, &mut store, base)?,
         None => 0,
@@ -87,9 +113,10 @@ fn run_extracts<S: Store + Drop>(
     extracts::print_head(rt, &mut store, wanted.store, refused)?;
     let mut extracts = Extracts::new(rt, store, wanted)?;
     for name in files {
-        extracts.take_file(rt, name.as_str())?;
+        extracts.take_file(rt, name)?;
     }
-    rows::print_outcome(rt, files.len() as u64, "done", &extracts.tally)
+    rows::print_outcome(rt, files.len() as u64, "done", &extracts.tally)?;
+    Ok(())
 }
 
 // Takes the extracts of the files over a store, confirms those without a refused row, and prints the board at the end.
@@ -97,49 +124,62 @@ fn run_followed<S: Store + Drop>(
     rt: &HostRuntime,
     mut store: S,
     wanted: Wanted,
-    files: &[String],
-) -> anyhow::Result<()> {
+    files: &[&str],
+) -> Result<(), TaskError> {
     let mut lines = boards::line_slots(rt, &mut store)?;
     follow::print_head(rt, &mut store, wanted.store, lines.len())?;
     let mut followed = Followed::new(store, lines.as_mut_slice(), wanted);
     followed.turn(rt)?;
     for name in files {
-        followed.take_file(rt, name.as_str())?;
+        followed.take_file(rt, name)?;
     }
     followed.print_board(rt)?;
-    rows::print_outcome(rt, files.len() as u64, "done", &followed.tally)
+    rows::print_outcome(rt, files.len() as u64, "done", &followed.tally)?;
+    Ok(())
 }
 
-fn run_scripts(rt: &HostRuntime, files: &[String]) -> anyhow::Result<()> {
+fn run_scripts(rt: &HostRuntime, files: &[&str]) -> Result<(), TaskError> {
     for name in files {
-        replay::print_script(rt, name.as_str())?;
+        replay::print_script(rt, name)?;
     }
     Ok(())
 }
 
-fn run_task(rt: &HostRuntime, words: &[String]) -> anyhow::Result<()> {
-    match Task::try_from(words)? {
-        Task::Rows(files) => run_rows(rt, files),
-        Task::Replay(files) => run_scripts(rt, files),
-        Task::Stores(slots, files) => run_stores(rt, slots, files),
-        Task::OverStore(wanted, work) => run_over_store(rt, wanted, work),
+fn run_task(rt: &HostRuntime, task: &Task) -> Result<(), TaskError> {
+    match task {
+        Task::Rows(files) => run_rows(rt, files.as_slice()),
+        Task::Replay(files) => run_scripts(rt, files.as_slice()),
+        Task::Stores(slots, files) => run_stores(rt, *slots, files.as_slice()),
+        Task::OverStore(wanted, work) => run_over_store(rt, *wanted, work),
     }
 }
 
-// Does the tasks that `--` stands between.
-fn run(rt: &HostRuntime) -> anyhow::Result<()> {
-    let mut words: Vec<String> = Vec::new(rt.alloc());
-    for word in env::args(rt)?.skip(1) {
-        if word.as_str() == "--" {
-            run_task(rt, words.as_slice())?;
-            words.clear();
-        } else {
-            words.push(word)?;
+// Does tasks one after another.
+fn run_tasks(rt: &HostRuntime, tasks: &[Task]) -> Result<(), TaskError> {
+    for task in tasks {
+        run_task(rt, task)?;
+    }
+    Ok(())
+}
+
+// Reads all words first, and then does the tasks. An error is printed whole to standard error, with status 1.
+fn main(rt: HostRuntime) -> anyhow::Result<ExitCode> {
+    let words: Vec<String> = env::args(&rt)?.skip(1).collect(rt.alloc())?;
+    match tasks_in(rt.alloc(), words.as_slice()) {
+        Ok(tasks) => {
+            if let Err(error) = run_tasks(&rt, tasks.as_slice()) {
+                eprintln!(&rt; "error: {error}")?;
+                return Ok(ExitCode::FAILURE);
+            }
+            Ok(ExitCode::SUCCESS)
+        }
+        Err(NoTask::Shown(text)) => {
+            print!(&rt; "{text}")?;
+            Ok(ExitCode::SUCCESS)
+        }
+        Err(error) => {
+            eprint!(&rt; "{error}")?;
+            Ok(ExitCode::FAILURE)
         }
     }
-    run_task(rt, words.as_slice())
-}
-
-fn main(rt: HostRuntime) -> anyhow::Result<()> {
-    run(&rt)
 }

@@ -1,23 +1,31 @@
 -- What each kind of row comes to, once it is read.
-use Rattle.std.proofs.Common.{◌≡◌, ℕ, Bool, true, false, ◌&&◌, ◌||◌, leb, List, [], ◌∷◌, ◌++◌, Some, None, Ok, Err, Result, sym, refl, ap, ◌∙◌, subst}
+use Rattle.std.proofs.Common.{◌≡◌, ℕ, ◌+◌, Bool, true, false, ◌&&◌, ◌||◌, leb, List, [], ◌∷◌, ◌++◌, Some, None, Ok, Err, Result, sym, refl, ap, ◌∙◌, subst}
 use Rattle.std.proofs.lemmas.Bool.{cond-false}
 use Rattle.cif.specs.declared.content.Location.{Location}
 use Rattle.cif.specs.declared.content.Content.{Content}
 use Rattle.cif.specs.declared.content.Content.TheVariants.{Operator, Origin, Intermediate, Terminus, Unread}
 use Rattle.cif.specs.declared.identity.Identity.{Identity}
-use Rattle.cif.specs.declared.identity.Identity.TheVariants.{Trailer, BasicExtra, Origin as IsOrigin, Intermediate as IsIntermediate, Terminus as IsTerminus}
+use Rattle.cif.specs.declared.identity.Identity.TheVariants.{Trailer, Origin as IsOrigin, Intermediate as IsIntermediate, Terminus as IsTerminus}
 use Rattle.cif.specs.declared.refusal.Refusal.TheVariants.{OutOfPlace, TooManyRows, StoreFull}
+use Rattle.cif.specs.declared.refusal.ColumnFault.{ColumnFault}
 use Rattle.cif.specs.Refusals.{TableLine, line, uppermost, fault_at, then}
-use Rattle.cif.specs.Fields.{operator_in, origin_in, intermediate_in, terminus_in}
 use Rattle.cif.specs.Reading.{content_in}
-use Rattle.schedule.specs.Building.{with_operator, with_call, with_destination, bringing, bringing_lines}
+use Rattle.schedule.specs.declared.transaction.Change.{Change}
+use Rattle.schedule.specs.Transactions.{plain_of}
+use Rattle.schedule.specs.Building.{with_operator, with_call, bringing, bringing_lines}
 use Rattle.extract.specs.declared.stage.Stage.{Stage}
 use Rattle.extract.specs.declared.stage.Stage.TheVariants.{Between, Begun, Extra, Running}
 use Rattle.extract.specs.Stages.{next_stage, is_identity}
-use Rattle.extract.specs.Progress.{ended_by, after}
+use Rattle.extract.specs.declared.extract.Extract.{Extract}
+use Rattle.extract.specs.Progress.{Progress, ended_by, after}
 use Rattle.extract.specs.Judging.{Standing, is_misplaced, row_verdict, verdict_on, value_unless, room_lines, call_row_lines, content_lines, GoesBy}
-use Rattle.extract.specs.Standings.{next_progress}
+use Rattle.extract.specs.Standings.{progress_with, StandsOn, Passes}
 use Rattle.extract.proofs.Lines.{or_next, uppermost_both}
+
+-- a row more, by the stage after it, the transaction that is then being read, and those that join at it
+abbrev pub next_progress : Progress → Stage → Change → List Change → Progress
+next_progress p stage draft joining =
+    record p { stage = stage; taken = p.taken + 1; draft = draft; changes = p.changes ++ joining }
 
 -- a row that is in place and was read goes by what it holds
 pub taken_is : (s : Standing) (i : Identity) (row : List ℕ) (c : Content) → is_misplaced s.extract.stage i ≡ false → content_in i row ≡ Ok c → row_verdict s i row ≡ verdict_on s c
@@ -74,29 +82,40 @@ module _ (s : Standing) where
       let e : after s.extract (Terminus l) ≡ next_progress s.extract Between s.extract.draft (ended_by l s.extract.draft ∷ []) = rw st refl in
       judged_same (content_lines s (Terminus l)) (bringing_lines s.extract.draft l ++ room_lines s.extract.taken) (after s.extract (Terminus l)) (next_progress s.extract Between s.extract.draft (ended_by l s.extract.draft ∷ [])) (located_same (bringing_lines s.extract.draft l)) e
 
--- a row of each identity, from the stages that take it
-module _ (s : Standing) (i : Identity) (row : List ℕ) (stage next : Stage) (at : s.extract.stage ≡ stage) where
-  in_place : (j : Identity) (c : Content) → i ≡ j → is_misplaced stage j ≡ false → content_in j row ≡ Ok c → row_verdict s i row ≡ verdict_on s c
-  in_place j c e placed content = ap (λ x. row_verdict s x row) e ∙ taken_is s j row c (ap (λ x. is_misplaced x j) at ∙ placed) content
-
-  goes : (j : Identity) → next_stage stage j false ≡ Some next → next_stage s.extract.stage j false ≡ Some next
-  goes j step = ap (λ x. next_stage x j false) at ∙ step
-
-  pub unread_row : (j : Identity) → i ≡ j → is_misplaced stage j ≡ false → content_in j row ≡ Ok (Unread j) → next_stage stage j false ≡ Some next → is_identity j Trailer ≡ false → row_verdict s i row ≡ value_unless (room_lines s.extract.taken) (next_progress s.extract next s.extract.draft [])
-  unread_row j e placed content step other = in_place j (Unread j) e placed content ∙ unread_taken s j next (goes j step) other
-
-pub operator_row : (s : Standing) (i : Identity) (row o : List ℕ) → s.extract.stage ≡ Begun → i ≡ BasicExtra → operator_in row ≡ Ok o → row_verdict s i row ≡ value_unless (room_lines s.extract.taken) (next_progress s.extract Extra (bringing (λ r. with_operator r o) s.extract.draft) [])
-operator_row s i row o at e read = in_place s i row Begun Extra at BasicExtra (Operator o) e refl (ap (λ x. then x (λ v. Ok (Operator v))) read) ∙ operator_taken s o at
-
-pub origin_row : (s : Standing) (i : Identity) (row : List ℕ) (l : Location) (stage : Stage) → s.extract.stage ≡ stage → i ≡ IsOrigin → is_misplaced stage IsOrigin ≡ false → next_stage stage IsOrigin false ≡ Some Running → origin_in row ≡ Ok l → row_verdict s i row ≡ value_unless (call_row_lines s.extract.draft l s.extract.taken) (next_progress s.extract Running (bringing (λ r. with_call r l) s.extract.draft) [])
-origin_row s i row l stage at e placed step read = in_place s i row stage Running at IsOrigin (Origin l) e placed (ap (λ x. then x (λ v. Ok (Origin v))) read) ∙ origin_taken s l (goes s i row stage Running at IsOrigin step)
-
-pub intermediate_row : (s : Standing) (i : Identity) (row : List ℕ) (l : Location) (stage : Stage) → s.extract.stage ≡ stage → i ≡ IsIntermediate → is_misplaced stage IsIntermediate ≡ false → next_stage stage IsIntermediate false ≡ Some Running → intermediate_in row ≡ Ok l → row_verdict s i row ≡ value_unless (call_row_lines s.extract.draft l s.extract.taken) (next_progress s.extract Running (bringing (λ r. with_call r l) s.extract.draft) [])
-intermediate_row s i row l stage at e placed step read = in_place s i row stage Running at IsIntermediate (Intermediate l) e placed (ap (λ x. then x (λ v. Ok (Intermediate v))) read) ∙ intermediate_taken s l (goes s i row stage Running at IsIntermediate step)
-
-pub terminus_row : (s : Standing) (i : Identity) (row : List ℕ) (l : Location) → s.extract.stage ≡ Running → i ≡ IsTerminus → terminus_in row ≡ Ok l → row_verdict s i row ≡ value_unless (call_row_lines s.extract.draft l s.extract.taken) (next_progress s.extract Between s.extract.draft (ended_by l s.extract.draft ∷ []))
-terminus_row s i row l at e read = in_place s i row Running Between at IsTerminus (Terminus l) e refl (ap (λ x. then x (λ v. Ok (Terminus v))) read) ∙ terminus_taken s l (goes s i row Running Between at IsTerminus refl)
-
 -- what was told by one rule was told by an equal one
 pub told_by : {X E : Type 0} (after : X) (rule given : Result X E) (r : Result (Unit {0}) E) → rule ≡ given → GoesBy after given r → GoesBy after rule r
 told_by {X} {E} after rule given r e h = subst (λ (x : Result X E). GoesBy after x r) (sym e) h
+
+-- a row that is in place and was read
+pub in_place : (s : Standing) (i j : Identity) (row : List ℕ) (stage : Stage) (c : Content) → s.extract.stage ≡ stage → i ≡ j → is_misplaced stage j ≡ false → content_in j row ≡ Ok c → row_verdict s i row ≡ verdict_on s c
+in_place s i j row stage c at e placed content = ap (λ x. row_verdict s x row) e ∙ taken_is s j row c (ap (λ x. is_misplaced x j) at ∙ placed) content
+
+-- what each kind of row does to an extract is what the rule says of a standing that has it
+module _ (e : Extract) (s : Standing) (p : Progress) (r : Result (Unit {0}) ColumnFault) (on : StandsOn e s) where
+  abbrev old : Progress
+  old = progress_with e s.extract.changes
+
+  pub passed : (i : Identity) (next : Stage) → Passes i e.stage next → GoesBy p (value_unless (room_lines e.taken) (next_progress old next (plain_of e.draft) [])) r → GoesBy p (verdict_on s (Unread i)) r
+  passed i next passes h =
+      told_by p _ _ r (unread_taken s i next (ap (λ (q : Progress). next_stage q.stage i false) on ∙ passes.0) passes.1 ∙ ap (λ (q : Progress). value_unless (room_lines q.taken) (next_progress q next q.draft [])) on) h
+
+  pub named : (o : List ℕ) → e.stage ≡ Begun → GoesBy p (value_unless (room_lines e.taken) (next_progress old Extra (bringing (λ r. with_operator r o) (plain_of e.draft)) [])) r → GoesBy p (verdict_on s (Operator o)) r
+  named o at h =
+      told_by p _ _ r (operator_taken s o (ap (λ (q : Progress). q.stage) on ∙ at) ∙ ap (λ (q : Progress). value_unless (room_lines q.taken) (next_progress q Extra (bringing (λ r. with_operator r o) q.draft) [])) on) h
+
+  abbrev Called : Location → Type 0
+  Called l = GoesBy p (value_unless (call_row_lines (plain_of e.draft) l e.taken) (next_progress old Running (bringing (λ r. with_call r l) (plain_of e.draft)) [])) r
+
+  call_on : (l : Location) → value_unless (call_row_lines s.extract.draft l s.extract.taken) (next_progress s.extract Running (bringing (λ r. with_call r l) s.extract.draft) []) ≡ value_unless (call_row_lines (plain_of e.draft) l e.taken) (next_progress old Running (bringing (λ r. with_call r l) (plain_of e.draft)) [])
+  call_on l = ap (λ (q : Progress). value_unless (call_row_lines q.draft l q.taken) (next_progress q Running (bringing (λ r. with_call r l) q.draft) [])) on
+
+  pub begun : (l : Location) → next_stage e.stage IsOrigin false ≡ Some Running → Called l → GoesBy p (verdict_on s (Origin l)) r
+  begun l step h = told_by p _ _ r (origin_taken s l (ap (λ (q : Progress). next_stage q.stage IsOrigin false) on ∙ step) ∙ call_on l) h
+
+  pub called : (l : Location) → next_stage e.stage IsIntermediate false ≡ Some Running → Called l → GoesBy p (verdict_on s (Intermediate l)) r
+  called l step h = told_by p _ _ r (intermediate_taken s l (ap (λ (q : Progress). next_stage q.stage IsIntermediate false) on ∙ step) ∙ call_on l) h
+
+  pub ended : (l : Location) → e.stage ≡ Running → GoesBy p (value_unless (call_row_lines (plain_of e.draft) l e.taken) (next_progress old Between (plain_of e.draft) (ended_by l (plain_of e.draft) ∷ []))) r → GoesBy p (verdict_on s (Terminus l)) r
+  ended l at h =
+      told_by p _ _ r (terminus_taken s l (ap (λ (q : Progress). next_stage q.stage IsTerminus false) on ∙ ap (λ x. next_stage x IsTerminus false) at)
+      ∙ ap (λ (q : Progress). value_unless (call_row_lines q.draft l q.taken) (next_progress q Between q.draft (ended_by l q.draft ∷ []))) on) h

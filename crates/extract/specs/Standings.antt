@@ -1,9 +1,11 @@
 -- How far an open extract is read with what is pending over a store, and what a row is judged by.
-use Rattle.std.specs.Prelude.{ℕ, ◌+◌, Bool, true, List, ◌++◌}
+use Rattle.std.specs.Prelude.{◌≡◌, ℕ, Bool, true, false, List, Some}
 use Rattle.cif.specs.declared.content.BasicSchedule.{BasicSchedule}
 use Rattle.cif.specs.declared.content.Change.{Change as Asked}
 use Rattle.cif.specs.declared.content.Change.TheVariants.{New as AsksNew, Revise as AsksRevise, Delete as AsksDelete}
 use Rattle.schedule.specs.declared.transaction.Change.{Change}
+use Rattle.cif.specs.declared.identity.Identity.{Identity}
+use Rattle.cif.specs.declared.identity.Identity.TheVariants.{Trailer}
 use Rattle.schedule.specs.Records.{in_range}
 use Rattle.schedule.specs.Transactions.{plain_of}
 use Rattle.timetable.specs.Timetables.{Meaning}
@@ -11,17 +13,13 @@ use Rattle.overlay.specs.declared.overlay.Overlay.{Overlay}
 use Rattle.overlay.specs.Overlays.{pending_in}
 use Rattle.extract.specs.declared.extract.Extract.{Extract}
 use Rattle.extract.specs.declared.stage.Stage.{Stage}
+use Rattle.extract.specs.Stages.{next_stage, is_identity}
 use Rattle.extract.specs.Progress.{Progress, begun_by}
 use Rattle.extract.specs.Judging.{Standing}
 
 -- how far the extract is read, with what is pending
 abbrev pub progress_with : Extract → List Change → Progress
 progress_with e changes = record { stage = e.stage; taken = e.taken; current = e.current; draft = plain_of e.draft; changes = changes }
-
--- a row more, by the stage after it, the transaction that is then being read, and those that join at it
-abbrev pub next_progress : Progress → Stage → Change → List Change → Progress
-next_progress p stage draft joining =
-    record p { stage = stage; taken = p.taken + 1; draft = draft; changes = p.changes ++ joining }
 
 -- what a row is judged by, for what a store means and what is pending
 abbrev pub standing_at : Meaning → Extract → List Change → List ℕ → Standing
@@ -36,3 +34,11 @@ abbrev pub range_in : BasicSchedule → Asked → Bool
 range_in b (AsksNew d) = in_range (begun_by b d)
 range_in b (AsksRevise d) = in_range (begun_by b d)
 range_in b AsksDelete = true
+
+-- what a row is judged by has this extract
+abbrev pub StandsOn : Extract → Standing → Type 0
+StandsOn e s = s.extract ≡ progress_with e s.extract.changes
+
+-- a row of which nothing is read takes an extract from one stage to the next
+abbrev pub Passes : Identity → Stage → Stage → Type 0
+Passes i stage next = (next_stage stage i false ≡ Some next) × (is_identity i Trailer ≡ false)

@@ -1,15 +1,13 @@
-// How the open extract moves on with each kind of row.
-ghost use Rattle.std.specs.Prelude.{◌≡◌, ℕ, ◌<◌, Bool, true, false, List, [], ◌∷◌, length, is_ok, OnOk, OnErr, if◌then◌else◌};
-ghost use Rattle.cif.specs.declared.content.Content.TheVariants.{Schedule as OfSchedule};
-ghost use Rattle.schedule.specs.declared.transaction.Change.{Change};
-ghost use Rattle.schedule.specs.Building.{with_operator, with_call, bringing};
-ghost use Rattle.schedule.specs.Transactions.{plain_of};
+// How the open extract moves on with each kind of row: as the rule says of any standing that has this extract.
+ghost use Rattle.std.specs.Prelude.{◌≡◌, ℕ, ◌<◌, Bool, true, false, List, length, is_ok, Some, OnOk, OnErr, if◌then◌else◌};
+ghost use Rattle.cif.specs.declared.content.Content.TheVariants.{Schedule as OfSchedule, Operator as OfOperator, Origin as OfOrigin, Intermediate as OfIntermediate, Terminus as OfTerminus, Unread};
+ghost use Rattle.cif.specs.declared.identity.Identity.{Identity};
+ghost use Rattle.cif.specs.declared.identity.Identity.TheVariants.{Origin as IsOrigin, Intermediate as IsIntermediate};
 ghost use Rattle.overlay.specs.Overlays.{pending_in};
-ghost use Rattle.extract.specs.declared.stage.Stage.TheVariants.{Idle as IsIdle, Between as IsBetween, Extra as IsExtra, Running as IsRunning};
-ghost use Rattle.extract.specs.Stages.{has_room, is_stage};
-ghost use Rattle.extract.specs.Judging.{room_lines, call_row_lines, value_unless, verdict_on, GoesBy};
-ghost use Rattle.extract.specs.Progress.{ended_by};
-ghost use Rattle.extract.specs.Standings.{progress_with, standing, next_progress, range_in};
+ghost use Rattle.extract.specs.declared.stage.Stage.TheVariants.{Idle as IsIdle, Between as IsBetween, Begun as IsBegun, Extra as IsExtra, Running as IsRunning};
+ghost use Rattle.extract.specs.Stages.{next_stage, has_room, is_stage};
+ghost use Rattle.extract.specs.Judging.{Standing, verdict_on, GoesBy};
+ghost use Rattle.extract.specs.Standings.{progress_with, standing, range_in, StandsOn, Passes};
 
 use crate::asking::is_brief;
 use crate::extract::Extract;
@@ -24,10 +22,9 @@ impl Extract {
     // A row of which nothing is read.
     pub(crate) fn pass(&mut self, next: Stage) -> Result<(), ColumnFault>
         requires open { is_stage next IsIdle ≡ false }
-        ensures told { (cs : List Change) → GoesBy (progress_with self.new cs)
-            (value_unless (room_lines self.old.taken)
-            (next_progress (progress_with self.old cs) next (plain_of self.old.draft) []))
-            result }
+        ensures told { (s : Standing) (i : Identity)
+            → StandsOn self.old s → Passes i self.old.stage next
+            → GoesBy (progress_with self.new s.extract.changes) (verdict_on s (Unread i)) result }
         ensures stage { self.new.stage ≡ (if is_ok result then next else self.old.stage) }
         ensures unchanged { OnErr result (self.new ≡ self.old) }
     {
@@ -39,10 +36,9 @@ impl Extract {
 
     // A BX row: the operator.
     pub(crate) fn take_operator(&mut self, operator: [u8; 2]) -> Result<(), ColumnFault>
-        ensures told { (cs : List Change) → GoesBy (progress_with self.new cs)
-            (value_unless (room_lines self.old.taken)
-            (next_progress (progress_with self.old cs) IsExtra
-            (bringing (λ s. with_operator s operator) (plain_of self.old.draft)) []))
+        requires { self.old.stage ≡ IsBegun }
+        ensures told { (s : Standing) → StandsOn self.old s
+            → GoesBy (progress_with self.new s.extract.changes) (verdict_on s (OfOperator operator))
             result }
         ensures stage { self.new.stage ≡ (if is_ok result then IsExtra else self.old.stage) }
         ensures unchanged { OnErr result (self.new ≡ self.old) }
@@ -56,11 +52,14 @@ impl Extract {
 
     // An LO or LI row: a call, if it is kept.
     pub(crate) fn take_call(&mut self, location: Location) -> Result<(), ColumnFault>
-        ensures told { (cs : List Change) → GoesBy (progress_with self.new cs)
-            (value_unless (call_row_lines (plain_of self.old.draft) location self.old.taken)
-            (next_progress (progress_with self.old cs) IsRunning
-            (bringing (λ s. with_call s location) (plain_of self.old.draft)) []))
+        ensures origin { (s : Standing) → StandsOn self.old s
+            → next_stage self.old.stage IsOrigin false ≡ Some IsRunning
+            → GoesBy (progress_with self.new s.extract.changes) (verdict_on s (OfOrigin location))
             result }
+        ensures intermediate { (s : Standing) → StandsOn self.old s
+            → next_stage self.old.stage IsIntermediate false ≡ Some IsRunning
+            → GoesBy (progress_with self.new s.extract.changes)
+            (verdict_on s (OfIntermediate location)) result }
         ensures stage { self.new.stage ≡ (if is_ok result then IsRunning else self.old.stage) }
         ensures unchanged { OnErr result (self.new ≡ self.old) }
     {
@@ -76,13 +75,12 @@ impl Extract {
         pending: &mut Pending,
         location: Location,
     ) -> Result<(), ColumnFault>
-        requires { length (pending_in pending.old) < 32 }
-        ensures told { GoesBy (progress_with self.new (pending_in pending.new))
-            (value_unless (call_row_lines (plain_of self.old.draft) location self.old.taken)
-            (next_progress (progress_with self.old (pending_in pending.old)) IsBetween
-            (plain_of self.old.draft)
-            (ended_by location (plain_of self.old.draft) ∷ [])))
-            result }
+        requires stage { self.old.stage ≡ IsRunning }
+        requires room { length (pending_in pending.old) < 32 }
+        ensures told { (s : Standing) → StandsOn self.old s
+            → s.extract.changes ≡ pending_in pending.old
+            → GoesBy (progress_with self.new (pending_in pending.new))
+            (verdict_on s (OfTerminus location)) result }
         ensures unchanged { OnErr result ((self.new ≡ self.old) × (pending.new ≡ pending.old)) }
         ensures room { OnOk result
             (has_room self.new.stage (length (pending_in pending.new)) ≡ true) }

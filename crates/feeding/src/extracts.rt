@@ -13,9 +13,9 @@ use controller::fault::ExtractFault;
 use extract::stage::Stage;
 use files::Rows;
 use listing::boards::{filled, line_slots, print_refused, shown_lines};
+use listing::error::{TaskError, read_file};
 use listing::rows::Tally;
 use std::alloc::AllocError;
-use std::fs;
 use tasks::{StoreKind, Wanted};
 use timetable::{Store, Timetable};
 use wording::answers::RefusedWords;
@@ -167,10 +167,10 @@ impl<'a, S: Store + Drop> Extracts<'a, S> {
     }
 
     /// Hands the rows of a file over, and prints what came of each. The store stays as it was.
-    pub fn take_file(&mut self, rt: &HostRuntime, name: &str) -> anyhow::Result<()>
+    pub fn take_file(&mut self, rt: &HostRuntime, name: &str) -> Result<(), TaskError>
         ensures { store_of (controller_of self.new) ≡ store_of (controller_of self.old) }
     {
-        let bytes = fs::read(rt, name)?;
+        let bytes = read_file(rt, name)?;
         println!(rt; "file {name}")?;
         for (place, row) in Rows::new(bytes.as_slice()).enumerate() {
             self.take_row(rt, place + 1, row)?;

@@ -11,8 +11,8 @@ use controller::fault::ExtractFault;
 use extract::stage::Stage;
 use files::Rows;
 use listing::boards::{filled, print_lines, print_refused, shown_lines};
+use listing::error::{TaskError, read_file};
 use listing::rows::Tally;
-use std::fs;
 use tasks::{StoreKind, Wanted};
 use timetable::Store;
 
@@ -206,11 +206,11 @@ impl<'a, 'b, S: Store + Drop> Followed<'a, 'b, S> {
     }
 
     /// Hands the rows of a file over, and ends each extract where it is complete or the file ends.
-    pub fn take_file(&mut self, rt: &HostRuntime, name: &str) -> anyhow::Result<()>
+    pub fn take_file(&mut self, rt: &HostRuntime, name: &str) -> Result<(), TaskError>
         ensures follows { Follows S.meaning self.old → Follows S.meaning self.new }
         ensures idle { OnOk result (IsTrue (is_idle (controller_of self.new))) }
     {
-        let bytes = fs::read(rt, name)?;
+        let bytes = read_file(rt, name)?;
         println!(rt; "file {name}")?;
         for (place, row) in Rows::new(bytes.as_slice()).enumerate() {
             let number = place + 1;

@@ -1,15 +1,17 @@
 //! Scripts of calls, done to controllers over both stores.
-ghost use Rattle.std.specs.Prelude.{◌≡◌, ℕ, ◌<◌, ◌↔◌, IsTrue, IfOk, Ok, length, map, slice_get};
+ghost use Rattle.std.specs.Prelude.{◌≡◌, ℕ, ◌<◌, ◌↔◌, IsTrue, IfOk, Ok, length, map, slice_get, IfErr, Err};
 ghost use Rattle.board.specs.Boards.{lines_of};
 ghost use Rattle.runs.specs.Runs.{call_meant};
 ghost use Rattle.scripts.specs.Histories.{told, histories_of};
 ghost use Rattle.scripts.specs.Steps.{call_of};
+ghost use Rattle.listing.specs.Errors.{NamesLine};
 
 use anyhow::anyhow;
 use board::display::{Board, StationDay};
 use board::line::Line;
 use controller::answer::Answer;
 use listing::boards::{empty_line, print_each, shown_lines};
+use listing::error::{TaskError, read_file};
 use listing::keeping::empty_record;
 use listing::rows::{Tally, print_calls};
 use runs::call::Call;
@@ -19,7 +21,6 @@ use scripts::history::History;
 use scripts::reading::{Unread, histories_in};
 use scripts::step::Step;
 use std::alloc::AllocError;
-use std::fs;
 use stores::{Bag, Table};
 use timetable::Store;
 use wording::answers::AnswerWords;
@@ -229,13 +230,16 @@ fn replay_over_both(
 }
 
 // The histories of a script, or an error that names the line that is none of a script.
-fn histories_of(rt: &HostRuntime, name: &str, script: &[u8]) -> anyhow::Result<Vec<History>>
-    ensures { IfOk result (λ histories. histories_of script.now ≡ Ok (map told histories.items)) }
+fn histories_of(rt: &HostRuntime, name: &str, script: &[u8]) -> Result<Vec<History>, TaskError>
+    ensures histories { IfOk result (λ histories.
+        histories_of script.now ≡ Ok (map told histories.items)) }
+    ensures slip { IfErr result (NamesLine name.now (λ number.
+        histories_of script.now ≡ Err number)) }
 {
     match histories_in(rt.alloc(), script) {
         Ok(histories) => Ok(histories),
         Err(Unread::Line(number)) => {
-            Err(anyhow!("script {name}, line {number}: no line of a script"))
+            Err(TaskError::Line(String::from_str(rt.alloc(), name)?, number))
         }
         Err(Unread::Memory(error)) => Err(error.into()),
     }
@@ -243,13 +247,14 @@ fn histories_of(rt: &HostRuntime, name: &str, script: &[u8]) -> anyhow::Result<V
 
 /// Does the histories of a script, and prints what came of each call. A script with a line that is
 /// none is refused as a whole.
-pub fn print_script(rt: &HostRuntime, name: &str) -> anyhow::Result<()> {
-    let script = fs::read(rt, name)?;
+pub fn print_script(rt: &HostRuntime, name: &str) -> Result<(), TaskError> {
+    let script = read_file(rt, name)?;
     let histories = histories_of(rt, name, script.as_slice())?;
     println!(rt; "script {name}")?;
     let mut tally = Tally::new();
     for (place, history) in histories.iter().enumerate() {
         replay_over_both(rt, place + 1, history, &mut tally)?;
     }
-    print_calls(rt, histories.len() as u64, &tally)
+    print_calls(rt, histories.len() as u64, &tally)?;
+    Ok(())
 }

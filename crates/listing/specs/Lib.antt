@@ -1,5 +1,6 @@
-pub mod Stations
-pub mod Tallies
 pub mod Blanks
 pub mod Drafts
+pub mod Errors
 pub mod Keeping
+pub mod Stations
+pub mod Tallies

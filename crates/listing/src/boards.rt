@@ -5,13 +5,13 @@ ghost use Rattle.listing.specs.Stations.{filled_up};
 ghost use Rattle.listing.specs.Blanks.{blank_line};
 
 use crate::drafts::{Asked, Draft};
+use crate::error::{TaskError, read_file};
 use board::display::Board;
 use board::line::{Line, LineKey};
 use cif::reading::read;
 use cif::refusal::Refusal;
 use files::Rows;
 use std::alloc::AllocError;
-use std::fs;
 use tasks::Wanted;
 use timetable::{Store, Timetable};
 use wording::answers::LineWords;
@@ -57,10 +57,10 @@ fn is_refused<S: Store>(store: &mut S, asked: Asked) -> bool
 }
 
 /// Puts the schedules of a file into a store, and says how many were refused. Its capacity stays.
-pub fn load_file<S: Store>(rt: &HostRuntime, store: &mut S, name: &str) -> anyhow::Result<u64>
+pub fn load_file<S: Store>(rt: &HostRuntime, store: &mut S, name: &str) -> Result<u64, TaskError>
     ensures { (S.meaning store.new).capacity ≡ (S.meaning store.old).capacity }
 {
-    let bytes = fs::read(rt, name)?;
+    let bytes = read_file(rt, name)?;
     let mut draft = Draft::new();
     let mut refused: u64 = 0;
     for row in Rows::new(bytes.as_slice()) {

@@ -3,6 +3,7 @@ ghost use Rattle.std.specs.Prelude.{◌≡◌, min, [], length, IsTrue};
 ghost use Rattle.schedule.specs.Records.{is_schedule};
 
 use crate::drafts::{Asked, Draft};
+use crate::error::{TaskError, read_file};
 use cif::reading::read;
 use files::Rows;
 use forms::letters::Stp;
@@ -10,7 +11,6 @@ use schedule::key::Key;
 use schedule::order::next_in_train;
 use schedule::record::Record;
 use schedule::schedule::Schedule;
-use std::fs;
 use stores::{Bag, Table};
 use timetable::{Store, Timetable};
 use wording::changes::{KeyWords, RecordWords};
@@ -106,10 +106,10 @@ impl<'a> Both<'a> {
     }
 
     /// Does what the rows of a file ask to both stores. Both capacities stay.
-    pub fn take_file(&mut self, rt: &HostRuntime, name: &str) -> anyhow::Result<()>
+    pub fn take_file(&mut self, rt: &HostRuntime, name: &str) -> Result<(), TaskError>
         ensures { CapacitiesKept self.old self.new }
     {
-        let bytes = fs::read(rt, name)?;
+        let bytes = read_file(rt, name)?;
         let mut draft = Draft::new();
         for row in Rows::new(bytes.as_slice()) {
             if let Ok(content) = read(row)

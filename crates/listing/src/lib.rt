@@ -3,5 +3,6 @@
 
 pub mod boards;
 pub mod drafts;
+pub mod error;
 pub mod keeping;
 pub mod rows;

@@ -1,12 +1,13 @@
 //! Rows one by one: what each holds, or why it is turned away.
 
+use crate::error::{TaskError, read_file};
 use cif::content::Content;
 use cif::reading::read;
 use cif::refusal::{Refusal, RowFault};
 use controller::answer::Answer;
 use files::Rows;
+use std::io;
 use std::io::{BufWriter, Write};
-use std::{fs, io};
 use wording::rows::Words;
 use wording::words::FaultWords;
 
@@ -148,8 +149,8 @@ fn write_row<W: Write + Drop>(
 }
 
 /// Prints each row of a file, and how many there were, and gives the tally of them.
-pub fn print_file(rt: &HostRuntime, name: &str) -> anyhow::Result<Tally> {
-    let bytes = fs::read(rt, name)?;
+pub fn print_file(rt: &HostRuntime, name: &str) -> Result<Tally, TaskError> {
+    let bytes = read_file(rt, name)?;
     let mut out = BufWriter::new(rt.alloc(), io::writer(rt))?;
     writeln!(out, "file {name}")?;
     let mut tally = Tally::new();

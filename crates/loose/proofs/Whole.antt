@@ -6,8 +6,8 @@ use Rattle.maps.specs.Maps.{apart}
 use Rattle.ordered.specs.Tables.{items}
 use Rattle.loose.specs.declared.loose.Loose.{Loose}
 
-pub same_loose : {E K : Type 0} {M : _} {N : _} (s t : Loose E K M N) → s.inner ≡ t.inner → s ≡ t
+pub same_loose : {E K : Type 0} {M : _} {N : _} (s t : Loose E K M N) → s.elements ≡ t.elements → s ≡ t
 same_loose {M = M} {N = N} s t p = λ i. record {
-  inner = p i;
+  elements = p i;
   distinct = is_prop→PathP (λ j. apart N.before M.keyed (items (p j)) ≡ true) (λ j. hlevel props) s.distinct t.distinct i;
 }

@@ -10,6 +10,6 @@ use ordered::slots::Slots;
 #[derive(Drop)]
 pub struct Loose<'a, E: Keyed> {
     /// The slots, the first of which hold the elements.
-    pub inner: Slots<'a, E>,
-    ghost distinct: { IsTrue (apart E.Key.before E.keyed (items inner)) },
+    pub elements: Slots<'a, E>,
+    ghost distinct: { IsTrue (apart E.Key.before E.keyed (items elements)) },
 }

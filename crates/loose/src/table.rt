@@ -14,73 +14,73 @@ use ordered::table::Full;
 impl<E: Keyed> Loose<'_, E> {
     /// A table over `slots` that holds nothing, whatever they have in them.
     pub fn new<'b>(slots: &'b mut [E]) -> Loose<'b, E>
-        ensures empty { items result.inner ≡ [] }
-        ensures room { room result.inner ≡ length slots.old }
+        ensures empty { items result.elements ≡ [] }
+        ensures room { room result.elements ≡ length slots.old }
     {
         Loose {
-            inner: Slots::new(slots),
+            elements: Slots::new(slots),
         }
     }
 }
 
 // The map is the elements put into the order of their keys.
 impl<E: Keyed> Mapped<E> for Loose<'_, E> {
-    ghost map = { λ t. gathered E.Key.before E.keyed (items t.inner) };
+    ghost map = { λ t. gathered E.Key.before E.keyed (items t.elements) };
 
-    ghost slots = { λ t. t.inner };
+    ghost slots = { λ t. t.elements };
 
     ghost rises = { λ t.
         map_rises E.Key.before E.keyed E.Key.irreflexive E.Key.transitive E.Key.total
-        (items t.inner) };
+        (items t.elements) };
 
     ghost fits = { λ t.
         map_fits E.Key.before E.keyed E.Key.irreflexive E.Key.transitive E.Key.total
-        t.inner t.distinct };
+        t.elements t.distinct };
 
     fn len(&mut self) -> usize
-        ensures value { result ≡ length (gathered E.Key.before E.keyed (items self.old.inner)) }
-        ensures held { result ≡ length (items self.old.inner) }
+        ensures value { result ≡ length (gathered E.Key.before E.keyed (items self.old.elements)) }
+        ensures held { result ≡ length (items self.old.elements) }
         ensures same { self.new ≡ self.old }
     {
-        self.inner.len()
+        self.elements.len()
     }
 
     fn room(&mut self) -> usize {
-        self.inner.room()
+        self.elements.room()
     }
 
     fn find(&mut self, key: E::Key) -> Option<E>
         ensures value { result ≡ lookup E.Key.before E.keyed
-            (gathered E.Key.before E.keyed (items self.old.inner)) key }
-        ensures held { result ≡ lookup E.Key.before E.keyed (items self.old.inner) key }
+            (gathered E.Key.before E.keyed (items self.old.elements)) key }
+        ensures held { result ≡ lookup E.Key.before E.keyed (items self.old.elements) key }
         ensures same { self.new ≡ self.old }
     {
-        match scan(self.inner.as_slice(), key) {
-            Some(place) => self.inner.get(place),
+        match scan(self.elements.as_slice(), key) {
+            Some(place) => self.elements.get(place),
             None => None,
         }
     }
 
     fn not_before(&mut self, probe: E::Key) -> Option<E::Key> {
-        lowest(self.inner.as_slice(), probe)
+        lowest(self.elements.as_slice(), probe)
     }
 
     // A new element goes after the others.
     fn put(&mut self, entry: E) -> Result<(), Full> {
-        match scan(self.inner.as_slice(), entry.key()) {
+        match scan(self.elements.as_slice(), entry.key()) {
             Some(place) => {
-                self.inner.set(place, entry);
+                self.elements.set(place, entry);
                 Ok(())
             }
-            None => self.inner.try_push(entry),
+            None => self.elements.try_push(entry),
         }
     }
 
     // The last element takes the place of the one that goes.
     fn remove(&mut self, key: E::Key) -> bool {
-        match scan(self.inner.as_slice(), key) {
+        match scan(self.elements.as_slice(), key) {
             Some(place) => {
-                take_out(&mut self.inner, place);
+                take_out(&mut self.elements, place);
                 true
             }
             None => false,

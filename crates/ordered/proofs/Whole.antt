@@ -14,8 +14,8 @@ same_slots s t p q = λ i. record {
   fits = is_prop→PathP (λ j. q j ≤ length (p j).now) (λ j. hlevel props) s.fits t.fits i;
 }
 
-pub same_ordered : {E K : Type 0} {M : _} {N : _} (s t : Ordered E K M N) → s.inner ≡ t.inner → s ≡ t
+pub same_ordered : {E K : Type 0} {M : _} {N : _} (s t : Ordered E K M N) → s.elements ≡ t.elements → s ≡ t
 same_ordered {M = M} {N = N} s t p = λ i. record {
-  inner = p i;
+  elements = p i;
   rising = is_prop→PathP (λ j. ascending N.before M.keyed (items (p j)) ≡ true) (λ j. hlevel props) s.rising t.rising i;
 }

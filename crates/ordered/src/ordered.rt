@@ -10,6 +10,6 @@ use crate::slots::Slots;
 #[derive(Drop)]
 pub struct Ordered<'a, E: Keyed> {
     /// The slots, the first of which hold the elements.
-    pub inner: Slots<'a, E>,
-    ghost rising: { IsTrue (ascending E.Key.before E.keyed (items inner)) },
+    pub elements: Slots<'a, E>,
+    ghost rising: { IsTrue (ascending E.Key.before E.keyed (items elements)) },
 }

@@ -27,68 +27,68 @@ impl Error for Full {}
 impl<E: Keyed> Ordered<'_, E> {
     /// A table over `slots` that holds nothing, whatever they have in them.
     pub fn new<'b>(slots: &'b mut [E]) -> Ordered<'b, E>
-        ensures empty { items result.inner ≡ [] }
-        ensures room { room result.inner ≡ length slots.old }
+        ensures empty { items result.elements ≡ [] }
+        ensures room { room result.elements ≡ length slots.old }
     {
         Ordered {
-            inner: Slots::new(slots),
+            elements: Slots::new(slots),
         }
     }
 
     /// The element at a place that counts from 0, in the order of the keys.
     pub fn nth(&mut self, n: usize) -> Option<E>
-        ensures value { result ≡ slice_get (items self.old.inner) n }
+        ensures value { result ≡ slice_get (items self.old.elements) n }
         ensures same { self.new ≡ self.old }
     {
-        self.inner.get(n)
+        self.elements.get(n)
     }
 }
 
 // The map is the elements as they stand.
 impl<E: Keyed> Mapped<E> for Ordered<'_, E> {
-    ghost map = { λ t. items t.inner };
+    ghost map = { λ t. items t.elements };
 
-    ghost slots = { λ t. t.inner };
+    ghost slots = { λ t. t.elements };
 
     ghost rises = { λ t. t.rising };
 
-    ghost fits = { λ t. items_fit t.inner };
+    ghost fits = { λ t. items_fit t.elements };
 
     fn len(&mut self) -> usize {
-        self.inner.len()
+        self.elements.len()
     }
 
     fn room(&mut self) -> usize {
-        self.inner.room()
+        self.elements.room()
     }
 
     fn find(&mut self, key: E::Key) -> Option<E> {
-        match self.inner.search(key) {
-            Ok(place) => self.inner.get(place),
+        match self.elements.search(key) {
+            Ok(place) => self.elements.get(place),
             Err(_) => None,
         }
     }
 
     fn not_before(&mut self, probe: E::Key) -> Option<E::Key> {
-        let place = self.inner.seek(probe);
-        self.inner.get(place).map(|there| there.key())
+        let place = self.elements.seek(probe);
+        self.elements.get(place).map(|there| there.key())
     }
 
     // A new element goes to its place in the order.
     fn put(&mut self, entry: E) -> Result<(), Full> {
-        match self.inner.search(entry.key()) {
+        match self.elements.search(entry.key()) {
             Ok(place) => {
-                self.inner.set(place, entry);
+                self.elements.set(place, entry);
                 Ok(())
             }
-            Err(place) => self.inner.insert(place, entry),
+            Err(place) => self.elements.insert(place, entry),
         }
     }
 
     fn remove(&mut self, key: E::Key) -> bool {
-        match self.inner.search(key) {
+        match self.elements.search(key) {
             Ok(place) => {
-                self.inner.remove(place);
+                self.elements.remove(place);
                 true
             }
             Err(_) => false,

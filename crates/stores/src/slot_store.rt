@@ -31,8 +31,8 @@ impl SlotStore<Ordered<'_, Record>> {
 
     /// An empty store over `slots`, whatever they hold. Its capacity is the number of slots, or 65,535 where there are more.
     pub fn new<'b>(slots: &'b mut [Record]) -> Table<'b>
-        ensures empty { items (table_of result).inner ≡ [] }
-        ensures capacity { room (table_of result).inner ≡ min (length slots.old) 65535 }
+        ensures empty { items (table_of result).elements ≡ [] }
+        ensures capacity { room (table_of result).elements ≡ min (length slots.old) 65535 }
     {
         let most = slots.len().min(MOST);
         SlotStore {
@@ -48,8 +48,8 @@ impl SlotStore<Loose<'_, Record>> {
 
     /// An empty store over `slots`, whatever they hold. Its capacity is the number of slots, or 65,535 where there are more.
     pub fn new<'b>(slots: &'b mut [Record]) -> Bag<'b>
-        ensures empty { items (table_of result).inner ≡ [] }
-        ensures capacity { room (table_of result).inner ≡ min (length slots.old) 65535 }
+        ensures empty { items (table_of result).elements ≡ [] }
+        ensures capacity { room (table_of result).elements ≡ min (length slots.old) 65535 }
     {
         let most = slots.len().min(MOST);
         SlotStore {

@@ -1,2 +1,5 @@
+pub mod Commands
+pub mod Refusals
+pub mod Requests
 pub mod Stores
-pub mod Tasks
+pub mod Worked

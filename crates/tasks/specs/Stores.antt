@@ -1,8 +1,8 @@
 -- The two stores by their words.
 use Rattle.std.specs.Prelude.{ℕ, List, cond, codes, Some, None, Option}
 use Rattle.std.specs.Str.{bytes_eq}
-use Rattle.tasks.specs.declared.StoreKind.{StoreKind}
-use Rattle.tasks.specs.declared.StoreKind.TheVariants.{Table, Bag}
+use Rattle.tasks.specs.declared.store.StoreKind.{StoreKind}
+use Rattle.tasks.specs.declared.store.StoreKind.TheVariants.{Table, Bag}
 
 -- the word for each store
 abbrev pub store_word : StoreKind → List ℕ

@@ -15,25 +15,17 @@ use controller::Controller;
 use stage::Stage;
 use std::ffi::{OsStr, OsString};
 use std::io::{self, Write};
-use std::slice;
 
-/// The base that stands for no file.
-const NO_BASE: &str = "-";
-
-/// What the command line asks for: a store and board, and the file that fills the store.
+/// What the command line asks for: a store and board, and the file that fills the store, if there is one.
 pub struct Request {
     pub board: board::Request,
-    pub base: OsString,
+    pub base: Option<OsString>,
 }
 
 impl Request {
     /// Fills a store from the base, and prints what becomes of the rows of these files over it.
     pub fn print(&self, names: &[OsString], out: &mut impl Write) -> io::Result<()> {
-        let bases = match self.base.to_str() {
-            Some(NO_BASE) => &[],
-            _ => slice::from_ref(&self.base),
-        };
-        let (store, refused) = stores::filled(self.board.slots, bases)?;
+        let (store, refused) = stores::filled(self.board.slots, self.base.as_slice())?;
         out.write_all(b"extract ")?;
         self.board.print_store(&store, refused, out)?;
         self.print_files(store, names, out)

@@ -10,9 +10,6 @@ use crate::tally::Tally;
 use std::ffi::{OsStr, OsString};
 use std::io::{self, Write};
 
-/// How many slots the store has where the command line does not say.
-pub const SLOTS: usize = 2_000;
-
 /// Prints what becomes of the rows of these files over an empty store, and the board that is
 /// asked for.
 pub fn print(request: &board::Request, names: &[OsString], out: &mut impl Write) -> io::Result<()> {

@@ -13,7 +13,7 @@ fn printed(station: &str, rows: &[&str]) -> String {
             station: station.into(),
             date: "240304".into(),
         },
-        base: "-".into(),
+        base: None,
     };
     let rows: String = rows.iter().map(|row| format!("{row:80}\n")).collect();
     let (mut controller, mut out) = (Controller::new(Store::new(1)), Vec::new());
