@@ -1,6 +1,6 @@
 //! The calls that a script asks for.
 ghost use Rattle.std.specs.Prelude.{◌≡◌};
-ghost use Rattle.runs.specs.Runs.{asked};
+ghost use Rattle.runs.specs.Runs.{call_meant};
 ghost use Rattle.scripts.specs.Steps.{call_of, word_of};
 
 use runs::call::Call;
@@ -43,7 +43,7 @@ impl Step {
 
     /// The call that it asks for.
     pub fn call(&self) -> Call<'_>
-        ensures { asked result ≡ call_of self.now }
+        ensures { call_meant result ≡ call_of self.now }
     {
         match self {
             Step::Open(row) => Call::Open(row.as_slice()),
