@@ -5,7 +5,7 @@
 #
 # The histories come in batches of at most 500, at the seeds SEED, SEED + 1, .. (1, 2, .. where SEED is not given). At the
 # first difference it stops with status 1, keeps the script and both outputs, and says where they are.
-# PROGRAM is the program to compare, crates/departures/out/departures where it is not given: ./demo builds that.
+# PROGRAM is the program to compare, crates/departures/out/departures where it is not given: ./demo --proved builds that.
 set -euo pipefail
 cd "$(dirname "$0")/.."
 
@@ -14,7 +14,7 @@ count=${1:-}
 seed=${2:-1}
 [[ $# -le 2 && $count =~ ^[1-9][0-9]*$ && $seed =~ ^[0-9]+$ ]] || { echo "usage: tools/histories.sh COUNT [SEED]" >&2; exit 2; }
 program=$(realpath -m -- "${PROGRAM:-crates/departures/out/departures}")
-[ -x "$program" ] || { echo "$program is not built; ./demo builds it" >&2; exit 2; }
+[ -x "$program" ] || { echo "$program is not built; ./demo --proved builds it" >&2; exit 2; }
 
 cargo build --release --offline --quiet --manifest-path reference/Cargo.toml
 reference=$PWD/reference/target/release/reference
