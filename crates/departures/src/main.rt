@@ -36,11 +36,7 @@ fn run_stores(rt: &HostRuntime, slots: usize, files: &[&str]) -> Result<(), Task
 }
 
 // Puts the schedules of files into a store, and says how many were refused.
-fn load_files<S: Store>(
-    rt: &HostRuntime,
-    store: &mut S,
-    files: &[&str],
-) -> Result<u64, TaskError> {
+fn load_files<S: Store>(rt: &HostRuntime, store: &mut S, files: &[&str]) -> Result<u64, TaskError> {
     let mut refused: u64 = 0;
     for name in files {
         refused = refused.saturating_add(boards::load_file(rt, store, name)?);
