@@ -179,7 +179,7 @@ impl<'a, 'b, S: Store + Drop> Followed<'a, 'b, S> {
         ensures same { SameStoreAndBoard self.old self.new }
         ensures refused { self.new.refused
             ≡ (if is_ok result || is_idle (controller_of self.old) then self.old.refused
-                else counted (self.old.refused + 1)) }
+            else counted (self.old.refused + 1)) }
     {
         let is_open = self.controller.stage() != Stage::Idle;
         let heard = hand(&mut self.controller, row);
