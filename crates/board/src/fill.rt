@@ -54,7 +54,6 @@ fn add_call(lines: &mut Slots<'_, Line>, plain: &Record, place: u8, station: &[u
         → Fresh xs plain.now.key.uid
         → Added station.now plain.now (place + 1) xs (items lines.new) }
     ensures grown { Grown lines.old lines.new }
-    ensures room { room lines.new ≡ room lines.old }
 {
     if let Some(line) = line_at(plain, place, station) {
         lines.push(line);
@@ -70,7 +69,6 @@ pub(crate) fn add_calls(lines: &mut Slots<'_, Line>, plain: &Record, station: &[
     ensures added { Added station.now plain.now plain.now.count (items lines.old)
         (items lines.new) }
     ensures grown { Grown lines.old lines.new }
-    ensures room { room lines.new ≡ room lines.old }
 {
     for place in 0..plain.count {
         add_call(lines, plain, place, station);
@@ -94,7 +92,6 @@ fn add_train<T: Timetable>(
         (items lines.old) (items lines.new) }
     ensures next { result ≡ not_before (T.meaning timetable.old).map (first_of (first.uid + 1)) }
     ensures grown { Grown lines.old lines.new }
-    ensures room { room lines.new ≡ room lines.old }
     ensures same { timetable.new ≡ timetable.old }
 {
     let next = walk.train(timetable, first, shown.day);
@@ -115,7 +112,6 @@ fn gather_lines<T: Timetable>(timetable: &mut T, lines: &mut Slots<'_, Line>, sh
         (items lines.new) }
     ensures few { length (items lines.new) ≤ 2 * length (T.meaning timetable.old).map }
     ensures rest { RestKept lines.old lines.new }
-    ensures room { room lines.new ≡ room lines.old }
     ensures same { timetable.new ≡ timetable.old }
 {
     lines.len = 0;
@@ -137,7 +133,6 @@ pub(crate) fn set_lines<T: Timetable>(
         (items lines.new.elements) }
     ensures few { length (items lines.new.elements) ≤ 2 * length (T.meaning timetable.old).map }
     ensures rest { RestKept lines.old.elements lines.new.elements }
-    ensures room { room lines.new.elements ≡ room lines.old.elements }
     ensures same { timetable.new ≡ timetable.old }
 {
     gather_lines(timetable, &mut lines.elements, shown);

@@ -17,7 +17,7 @@ add_call-requires c = record {
 pub loop-place-preserved : goal.loop-place-preserved
 loop-place-preserved c = (
   c.add_call.ensures.added (items c.args.lines.now) c.loop-place.invariant.0 c.requires.fresh,
-  c.add_call.ensures.room ∙ c.loop-place.invariant.1,
+  c.add_call.ensures.grown.rest.slots ∙ c.loop-place.invariant.1,
   grown_more _ _ _ c.loop-place.invariant.2 c.add_call.ensures.grown,
 )
 
@@ -25,6 +25,5 @@ pub returns : goal.returns
 returns c = record {
   added = (let e : c.loop-place.place ≡ c.args.plain.now.count = (let k = c.loop-place.auto.place-end in let t = c.loop-place-test.false in omega arith) in
       subst (λ (n : ℕ). Added c.args.station.now c.args.plain.now n (items c.args.lines.now) (items c.loop-place.lines)) e c.loop-place.invariant.0);
-  room = c.loop-place.invariant.1;
   grown = c.loop-place.invariant.2;
 }

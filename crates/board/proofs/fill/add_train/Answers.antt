@@ -1,4 +1,4 @@
-use Rattle.std.proofs.Common.{rules, sym, ap, ◌∙◌, subst, arith}
+use Rattle.std.proofs.Common.{sym, ap, ◌∙◌, subst, arith}
 use Rattle.ordered.specs.Tables.{items}
 use Rattle.schedule.specs.declared.record.Record.{Record}
 use Rattle.schedule.specs.Records.{is_schedule}
@@ -32,7 +32,6 @@ returns-in_default-stp g c =
           (subst (λ (r : Record). InForce m c.args.first.uid c.args.shown.now.day r) (sym c.record-plain.ensures) force)
           (runs_if _ c.in_default-stp.not-Cancellation) (ap is_schedule c.record-plain.ensures ∙ c.in-Some.schedule.valid) c.add_calls.ensures.added;
       next = c.train-next.ensures.next;
-      room = c.add_calls.ensures.room;
       grown = c.add_calls.ensures.grown;
       same = c.train-next.ensures.same;
     }

@@ -79,7 +79,7 @@ loop-next-preserved g c =
     let trained = subst (λ (r : List Record). Trained r c.args.shown.now.station c.args.shown.now.day c.in-Some.first.uid (items c.loop-next.lines) (items c.add_train-next.new.lines)) (ap (λ v. (g.T.Timetable.meaning v).map) c.loop-next.invariant.2) c.add_train-next.ensures.trained in
     let two = trained.few in (
       more m c.args.shown.now.station c.args.shown.now.day c.in-Some.first is (items c.loop-next.lines) (so_far g at) (items c.add_train-next.new.lines) c.add_train-next.result next trained,
-      c.add_train-next.ensures.room ∙ c.loop-next.invariant.1,
+      c.add_train-next.ensures.grown.rest.slots ∙ c.loop-next.invariant.1,
       c.add_train-next.ensures.same ∙ c.loop-next.invariant.2,
       omega arith,
       starts m (c.in-Some.first.uid + 1) c.add_train-next.result is next,
@@ -92,7 +92,6 @@ returns g c =
     record {
       lines = whole (g.T.Timetable.meaning c.args.timetable.now).map c.args.shown.now.station c.args.shown.now.day (items c.loop-next.lines) (rw c.in_default.is at c.loop-next.invariant.0);
       few = omega arith;
-      room = c.loop-next.invariant.1;
       rest = let kept = c.loop-next.invariant.5 in record { rest = kept.rest; slots = kept.slots; lender = kept.lender };
       same = c.loop-next.invariant.2;
     }
