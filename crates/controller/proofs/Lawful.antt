@@ -1,5 +1,5 @@
 -- The laws, from the definitions.
-use Rattle.std.proofs.Common.{◌≡◌, ◌≤◌, Bool, true, false, cond, List, [], ◌∷◌, ◌++◌, length, take, Some, None, Option, sym, refl, ap, subst, append-nil, arith, MatchOption}
+use Rattle.std.proofs.Common.{◌≡◌, Bool, true, false, cond, List, [], ◌∷◌, ◌++◌, take, Some, None, Option, sym, refl, ap, subst, append-nil, arith, MatchOption}
 use Rattle.std.proofs.lemmas.List.{take_more_set}
 use Rattle.cif.specs.declared.refusal.ColumnFault.{ColumnFault}
 use Rattle.cif.specs.Refusals.{TableLine, uppermost}

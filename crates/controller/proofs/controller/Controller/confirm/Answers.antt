@@ -1,4 +1,4 @@
-use Rattle.std.proofs.Common.{rules, ◌≡◌, ℕ, ◌+◌, Bool, true, false, not, min, [], ◌∷◌, length, is_ok, None, Ok, Err, Result, refl, ap, ◌∙◌}
+use Rattle.std.proofs.Common.{rules, ◌≡◌, ℕ, ◌+◌, Bool, true, false, not, min, ◌∷◌, length, is_ok, None, Ok, Err, Result, refl, ap, ◌∙◌}
 use Rattle.std.proofs.lemmas.Bool.{true≢false}
 use Rattle.cif.specs.declared.refusal.Refusal.TheVariants.{OutOfPlace}
 use Rattle.cif.specs.declared.refusal.ColumnFault.{ColumnFault}
