@@ -1,6 +1,7 @@
 // Reads files of rows in the CIF layout, and prints what they hold.
 #![tactic(auto)]
 
+use command_line::{NoTask, tasks_in};
 use feeding::extracts::Extracts;
 use feeding::follow::Followed;
 use feeding::{extracts, follow, replay};
@@ -10,7 +11,7 @@ use listing::{boards, keeping, rows};
 use std::env;
 use std::process::ExitCode;
 use stores::{Bag, Table};
-use tasks::{NoTask, StoreKind, Task, Wanted, Work, tasks_in};
+use tasks::{StoreKind, Task, Wanted, Work};
 use timetable::Store;
 
 fn run_rows(rt: &HostRuntime, files: &[&str]) -> Result<(), TaskError> {

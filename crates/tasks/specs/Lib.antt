@@ -1,5 +1,1 @@
-pub mod Commands
-pub mod Refusals
-pub mod Requests
 pub mod Stores
-pub mod Worked

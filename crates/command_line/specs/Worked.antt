@@ -1,0 +1,69 @@
+-- Worked command lines: what they ask for, and which faults wrong ones have.
+use Rattle.std.specs.Prelude.{◌≡◌, ◌==◌, List, [], ◌∷◌, codes, cond, Option, Some, None}
+use Rattle.clap.specs.Walk.{Text}
+use Rattle.clap.specs.declared.error.kind.ErrorKind.TheVariants as kind
+use Rattle.tasks.specs.declared.store.StoreKind.TheVariants.{Table, Bag}
+use Rattle.command_line.specs.Requests.{BoardRequest, Request, board, board_with, extract, parts, replay}
+use Rattle.command_line.specs.Requests.{request_in, rows, run, stores, turns, with_first}
+use Rattle.command_line.specs.Refusals.{faults_in}
+
+-- the words of a line, with one blank between two
+abbrev pub words_of : Text → List Text
+words_of [] = [] ∷ []
+words_of (c ∷ cs) = cond (c == 32) ([] ∷ words_of cs) (with_first c (words_of cs))
+
+abbrev pub asked_by : Text → Option Request
+asked_by line = request_in (words_of line)
+
+abbrev pub week : List Text
+week = codes "week.cif" ∷ []
+
+-- the board of HALTA where no option is given
+abbrev pub usual_board : BoardRequest
+usual_board = board_with Table 2000 (codes "HALTA") (codes "240304")
+
+-- each task
+pub record Tasks : Type 0 where
+  pub rows : asked_by (codes "rows week.cif update.cif")
+      ≡ Some (rows (codes "week.cif" ∷ codes "update.cif" ∷ []))
+  pub replay : asked_by (codes "replay week.cif") ≡ Some (replay week)
+  pub stores : asked_by (codes "stores week.cif") ≡ Some (stores 2000 week)
+  pub run : asked_by (codes "run HALTA 240304 week.cif") ≡ Some (run usual_board week)
+  pub board : asked_by (codes "board HALTA 240304 week.cif") ≡ Some (board usual_board week)
+  pub turns : asked_by (codes "turns 1000 HALTA 240304 week.cif")
+      ≡ Some (turns 1000 usual_board week)
+  pub extract : asked_by (codes "extract HALTA 240304 week.cif")
+      ≡ Some (extract None usual_board week)
+
+-- options, before the other words, among them and behind them
+pub record Options : Type 0 where
+  pub stores : asked_by (codes "stores --capacity 65536 week.cif") ≡ Some (stores 65536 week)
+  pub run : asked_by (codes "run HALTA --store bag 240304 week.cif --capacity=7")
+      ≡ Some (run (board_with Bag 7 (codes "HALTA") (codes "240304")) week)
+  pub extract : asked_by (codes "extract --base=week.cif --store table HALTA 240304 week.cif")
+      ≡ Some (extract (Some (codes "week.cif")) usual_board week)
+
+-- wrong words, and those that ask for help or the version
+pub record Faults : Type 0 where
+  pub none : faults_in [] ≡ kind.MissingSubcommand ∷ []
+  pub no_such_task : faults_in (words_of (codes "rum week.cif"))
+      ≡ kind.UnknownArgument ∷ kind.InvalidSubcommand ∷ []
+  pub missing : faults_in (words_of (codes "run HALTA 240304")) ≡ kind.MissingRequiredArgument ∷ []
+  pub no_such_store : faults_in (words_of (codes "run --store shelf HALTA 240304 week.cif"))
+      ≡ kind.InvalidValue ∷ []
+  pub too_many_slots : faults_in (words_of (codes "stores --capacity 65537 week.cif"))
+      ≡ kind.ValueValidation ∷ []
+  pub repeated : faults_in (words_of (codes "stores --capacity 1 --capacity 1 week.cif"))
+      ≡ kind.ArgumentConflict ∷ []
+  pub not_here : faults_in (words_of (codes "rows --store bag week.cif"))
+      ≡ kind.UnknownArgument ∷ []
+  pub help : faults_in (words_of (codes "--help")) ≡ kind.DisplayHelp ∷ []
+  pub help_on_task : faults_in (words_of (codes "run --help")) ≡ kind.DisplayHelp ∷ []
+  pub version : faults_in (words_of (codes "--version")) ≡ kind.DisplayVersion ∷ []
+
+pub record Worked : Type 0 where
+  pub tasks : Tasks
+  pub options : Options
+  pub faults : Faults
+  pub several : parts (words_of (codes "rows a -- rows b c --"))
+      ≡ (codes "rows" ∷ codes "a" ∷ []) ∷ (codes "rows" ∷ codes "b" ∷ codes "c" ∷ []) ∷ [] ∷ []

@@ -1,0 +1,247 @@
+//! The command line as `clap` reads it: the tasks with their arguments, and what help says of them.
+ghost use Rattle.std.specs.Prelude.{◌≡◌, false, codes, IfOk};
+ghost use Rattle.clap.specs.Words.{app_of, rule_of};
+ghost use Rattle.command_line.specs.Commands.{IsCommand, base_rule, capacity_rule, count_rule, date_rule};
+ghost use Rattle.command_line.specs.Commands.{files_rule, station_rule, store_rule, over_store};
+ghost use Rattle.command_line.specs.Commands.{run_command, replay_command, rows_command, stores_command};
+ghost use Rattle.command_line.specs.Commands.{board_command, turns_command, extract_command};
+ghost use Rattle.command_line.specs.Commands.{IsLocal, departures, program, with_board};
+
+use clap::builder::ValueParser;
+use clap::{Arg, Command};
+use std::alloc::{AllocError, Global};
+
+// The store that a task works over.
+fn store_option<'a>(alloc: Global) -> Arg<'a>
+    ensures rule { rule_of result ≡ store_rule }
+    ensures local { result.global ≡ false }
+{
+    Arg::new(alloc, "store")
+        .long("store")
+        .value_name("STORE")
+        .default_value("table")
+        .help("The store that schedules are put into: 'table' or 'bag'")
+}
+
+// How many slots a store has.
+fn capacity_option<'a>(alloc: Global) -> Arg<'a>
+    ensures rule { rule_of result ≡ capacity_rule }
+    ensures local { result.global ≡ false }
+{
+    Arg::new(alloc, "capacity")
+        .long("capacity")
+        .value_name("CAPACITY")
+        .default_value("2000")
+        .value_parser(ValueParser::unsigned(0, 65_536))
+        .help("How many schedules the store has slots for, from 0 to 65536")
+}
+
+// The file whose schedules stand in the store before the extracts come.
+fn base_option<'a>(alloc: Global) -> Arg<'a>
+    ensures rule { rule_of result ≡ base_rule }
+    ensures local { result.global ≡ false }
+{
+    Arg::new(alloc, "base").long("base").value_name("FILE").help(
+        "A file of rows whose schedules are put into the store first",
+    )
+}
+
+// How many times a board is turned.
+fn count_argument<'a>(alloc: Global) -> Arg<'a>
+    ensures rule { rule_of result ≡ count_rule }
+    ensures local { result.global ≡ false }
+{
+    Arg::new(alloc, "count")
+        .value_name("COUNT")
+        .required(true)
+        .value_parser(ValueParser::unsigned(0, u64::MAX))
+        .help("How many times the board is turned")
+}
+
+// The station of a board.
+fn station_argument<'a>(alloc: Global) -> Arg<'a>
+    ensures rule { rule_of result ≡ station_rule }
+    ensures local { result.global ≡ false }
+{
+    Arg::new(alloc, "station")
+        .value_name("STATION")
+        .required(true)
+        .help("The station of the board: a TIPLOC of one to seven letters or digits")
+}
+
+// The date of a board.
+fn date_argument<'a>(alloc: Global) -> Arg<'a>
+    ensures rule { rule_of result ≡ date_rule }
+    ensures local { result.global ≡ false }
+{
+    Arg::new(alloc, "date")
+        .value_name("DATE")
+        .required(true)
+        .help("The date of the board, as YYMMDD")
+}
+
+// The files of a task, one at least.
+fn files_argument<'a>(alloc: Global, value_name: &'a str, help: &'a str) -> Arg<'a>
+    ensures rule { rule_of result ≡ files_rule }
+    ensures local { result.global ≡ false }
+{
+    Arg::new(alloc, "files")
+        .value_name(value_name)
+        .required(true)
+        .num_args(1..)
+        .help(help)
+}
+
+// Files of rows.
+fn row_files_argument<'a>(alloc: Global) -> Arg<'a>
+    ensures rule { rule_of result ≡ files_rule }
+    ensures local { result.global ≡ false }
+{
+    files_argument(
+        alloc,
+        "FILE",
+        "A file of rows in the CIF layout, or several",
+    )
+}
+
+// A task over one store.
+fn over_store<'a>(
+    alloc: Global,
+    name: &'a str,
+    about: &'a str,
+    after_help: &'a str,
+) -> Result<Command<'a>, AllocError>
+    ensures { IfOk result (λ c. IsCommand c (over_store name.entry.now)) }
+{
+    Command::new(alloc, name)
+        .about(about)
+        .after_help(after_help)
+        .arg(store_option(alloc))?
+        .arg(capacity_option(alloc))
+}
+
+// The same task, given a board's station and date, and files.
+fn with_board<'a>(alloc: Global, command: Command<'a>) -> Result<Command<'a>, AllocError>
+    requires { IsLocal command }
+    ensures { IfOk result (λ c. IsCommand c (with_board (app_of command.entry))) }
+{
+    command
+        .arg(station_argument(alloc))?
+        .arg(date_argument(alloc))?
+        .arg(row_files_argument(alloc))
+}
+
+fn run_command<'a>(alloc: Global) -> Result<Command<'a>, AllocError>
+    ensures { IfOk result (λ c. IsCommand c run_command) }
+{
+    let run = over_store(
+        alloc,
+        "run",
+        "Take extracts in order, confirm each, and print the board",
+        "Example:\n  departures run HALTA 240304 week.cif update.cif",
+    )?;
+    with_board(alloc, run)
+}
+
+fn replay_command<'a>(alloc: Global) -> Result<Command<'a>, AllocError>
+    ensures { IfOk result (λ c. IsCommand c replay_command) }
+{
+    Command::new(alloc, "replay")
+        .about("Do the calls of scripts to controllers over both stores side by side")
+        .after_help("Example:\n  departures replay example.calls")
+        .arg(files_argument(alloc, "SCRIPT", "A script of calls, or several"))
+}
+
+fn rows_command<'a>(alloc: Global) -> Result<Command<'a>, AllocError>
+    ensures { IfOk result (λ c. IsCommand c rows_command) }
+{
+    Command::new(alloc, "rows")
+        .about("Tell what each row of files holds, or why it is turned away")
+        .after_help("Example:\n  departures rows week.cif")
+        .arg(row_files_argument(alloc))
+}
+
+fn stores_command<'a>(alloc: Global) -> Result<Command<'a>, AllocError>
+    ensures { IfOk result (λ c. IsCommand c stores_command) }
+{
+    Command::new(alloc, "stores")
+        .about("Put the schedules of files into both stores, and list them")
+        .after_help("Example:\n  departures stores --capacity 10 week.cif update.cif")
+        .arg(capacity_option(alloc))?
+        .arg(row_files_argument(alloc))
+}
+
+fn board_command<'a>(alloc: Global) -> Result<Command<'a>, AllocError>
+    ensures { IfOk result (λ c. IsCommand c board_command) }
+{
+    let board = over_store(
+        alloc,
+        "board",
+        "Put the schedules of files into a store, and print the board",
+        "Example:\n  departures board --store bag HALTA 240304 week.cif",
+    )?;
+    with_board(alloc, board)
+}
+
+fn turns_command<'a>(alloc: Global) -> Result<Command<'a>, AllocError>
+    ensures { IfOk result (λ c. IsCommand c turns_command) }
+{
+    let turns = over_store(
+        alloc,
+        "turns",
+        "Turn a board many times, for measuring",
+        "Example:\n  departures turns 1000 HALTA 240304 week.cif",
+    )?;
+    with_board(alloc, turns.arg(count_argument(alloc))?)
+}
+
+fn extract_command<'a>(alloc: Global) -> Result<Command<'a>, AllocError>
+    ensures { IfOk result (λ c. IsCommand c extract_command) }
+{
+    let extract = over_store(
+        alloc,
+        "extract",
+        "Take extracts row by row, tell what is pending, and abandon each",
+        "Example:\n  departures extract --capacity 1 --base room_base.cif HALTA 240304 room.cif",
+    )?;
+    with_board(alloc, extract.arg(base_option(alloc))?)
+}
+
+// What help says below the tasks.
+const AFTER_TASKS: &str = "\
+Several tasks can be given, with the word -- between two; they are done in order.
+'departures help TASK' says what a task is given.
+
+Example:
+  departures run HALTA 240304 week.cif update.cif -- rows week.cif";
+
+// The program before it has tasks. The words do not begin with its name.
+fn program<'a>(alloc: Global) -> Result<Command<'a>, AllocError>
+    ensures { IfOk result (λ c. IsCommand c program) }
+{
+    Ok(
+        Command::new(alloc, "departures")
+            .bin_name("departures")?
+            .about("Departure boards from schedule rows in the CIF layout")
+            .after_help(AFTER_TASKS)
+            .version("1.0.0")
+            .no_binary_name(true)
+            .subcommand_required(true)
+            .subcommand_value_name("TASK")
+            .subcommand_help_heading("Tasks"),
+    )
+}
+
+// The program with its tasks.
+pub(crate) fn departures<'a>(alloc: Global) -> Result<Command<'a>, AllocError>
+    ensures { IfOk result (λ c. IsCommand c departures) }
+{
+    program(alloc)?
+        .subcommand(run_command(alloc)?)?
+        .subcommand(replay_command(alloc)?)?
+        .subcommand(rows_command(alloc)?)?
+        .subcommand(stores_command(alloc)?)?
+        .subcommand(board_command(alloc)?)?
+        .subcommand(turns_command(alloc)?)?
+        .subcommand(extract_command(alloc)?)
+}

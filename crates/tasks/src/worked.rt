@@ -1,7 +1,0 @@
-//! Worked command lines.
-ghost use Rattle.tasks.specs.Worked.{Worked};
-
-/// What some command lines ask for, and which faults wrong ones have.
-pub fn worked_lines()
-    ensures { Worked }
-{}
