@@ -5,7 +5,7 @@ use Rattle.std.proofs.lemmas.Slice.Eq.{bytes_eq-Decides}
 use Rattle.std.proofs.lemmas.Bool.{and_parts, cases_Bool, cond-true, cond-false, leb-true, cases_eq}
 use Rattle.cif.specs.declared.content.Location.{Location}
 use Rattle.maps.specs.Orders.{same}
-use Rattle.maps.specs.Maps.{lookup, gathered}
+use Rattle.maps.specs.Maps.{lookup, map_from}
 use Rattle.maps.proofs.Maps.{same_is, same_level, lookup_including, lookup_gathered}
 use Rattle.maps.proofs.Heaped.{gathered_push, apart_push}
 use Rattle.schedule.specs.declared.record.Record.{Record}
@@ -71,7 +71,7 @@ lookup_push : (ys : List Line) (x : Line) (k : LineKey) → lookup line_before l
 lookup_push ys x k none =
     sym (lookup_gathered line_before line_key line_lawful (ys ++ x ∷ []) k)
     ∙ ap (λ m. lookup line_before line_key m k) (gathered_push line_before line_key line_lawful ys x none)
-    ∙ lookup_including line_before line_key line_lawful (gathered line_before line_key ys) x k
+    ∙ lookup_including line_before line_key line_lawful (map_from line_before line_key ys) x k
     ∙ ap (λ o. cond (same line_before (line_key x) k) (Some x) o) (lookup_gathered line_before line_key line_lawful ys k)
 
 some_at : {X : Type 0} (o : Option X) (x y : X) → o ≡ Some x → o ≡ Some y → x ≡ y

@@ -2,7 +2,7 @@
 use Rattle.std.proofs.Common.{◌≡◌, ℕ, ◌+◌, ◌<◌, ◌≤◌, true, false, List, [], length, Some, None, Option, sym, refl, ap, ◌∙◌, ⊎_elim, arith}
 use Rattle.std.proofs.lemmas.Bool.{both_ways, cases_lt, cases_order}
 use Rattle.std.proofs.lemmas.Bool.Decides.{nat_tests}
-use Rattle.maps.specs.Maps.{ascending, lookup, gathered, apart}
+use Rattle.maps.specs.Maps.{ascending, lookup, map_from, has_distinct_keys}
 use Rattle.maps.proofs.Maps.{same_maps, ascending_gathered, lookup_gathered}
 use Rattle.schedule.specs.declared.key.Key.{Key}
 use Rattle.schedule.specs.declared.record.Record.{Record}
@@ -98,7 +98,7 @@ pub whole : (m : List Record) (station : List ℕ) (day : ℕ) (ys : List Line) 
 whole m station day ys w = record { only = λ l o. (w.only l o).0; every = λ l i. w.every l i tt; distinct = w.distinct }
 
 -- all lines in the order of their keys are the board
-pub board_of : (m : List Record) (station : List ℕ) (day : ℕ) (ys zs : List Line) → AllLines m station day ys → (apart line_before line_key ys ≡ true → zs ≡ gathered line_before line_key ys) → BoardOf m station day zs
+pub board_of : (m : List Record) (station : List ℕ) (day : ℕ) (ys zs : List Line) → AllLines m station day ys → (has_distinct_keys line_before line_key ys ≡ true → zs ≡ map_from line_before line_key ys) → BoardOf m station day zs
 board_of m station day ys zs all sorted =
     let e = sorted all.distinct in
     let look : (l : Line) → lookup line_before line_key zs (line_key l) ≡ lookup line_before line_key ys (line_key l)

@@ -2,7 +2,7 @@
 -- needs it to believe which lines stand on a board.
 use Rattle.std.specs.Prelude.{◌≡◌, ℕ, ◌+◌, ◌<◌, ◌≤◌, Bool, true, false, ◌⊎◌, List, length, take, Some, None, Option, ◌≢◌}
 use Rattle.cif.specs.declared.content.Location.{Location}
-use Rattle.maps.specs.Maps.{apart}
+use Rattle.maps.specs.Maps.{has_distinct_keys}
 use Rattle.ordered.specs.declared.slots.Slots.{Slots}
 use Rattle.ordered.specs.Tables.{RestKept}
 use Rattle.schedule.specs.declared.key.Key.{Key}
@@ -23,7 +23,7 @@ pub record Added (station : List ℕ) (r : Record) (p : ℕ) (xs ys : List Line)
   pub kept : (l : Line) → On xs l → On ys l
   pub every : (l : Line) → l.key.place < p → line_at station r l.key.place ≡ Some l → On ys l
   pub few : length ys ≤ length xs + visits station (take p r.calls)
-  pub distinct : apart line_before line_key xs ≡ true → apart line_before line_key ys ≡ true
+  pub distinct : has_distinct_keys line_before line_key xs ≡ true → has_distinct_keys line_before line_key ys ≡ true
 
 -- no line of xs is of a train
 abbrev pub Fresh : List Line → ℕ → Type 0
@@ -43,7 +43,7 @@ StartsTrain m None = Unit {0}
 pub record UpTo (m : List Record) (station : List ℕ) (day : ℕ) (next : Option Key) (ys : List Line) : Type 0 where
   pub only : (l : Line) → On ys l → IsLine m station day l × Earlier next l.key.uid
   pub every : (l : Line) → IsLine m station day l → Earlier next l.key.uid → On ys l
-  pub distinct : apart line_before line_key ys ≡ true
+  pub distinct : has_distinct_keys line_before line_key ys ≡ true
 
 -- the lines of xs and those of one train, and no other; a train has at most two
 pub record Trained (m : List Record) (station : List ℕ) (day uid : ℕ) (xs ys : List Line) : Type 0 where
@@ -51,13 +51,13 @@ pub record Trained (m : List Record) (station : List ℕ) (day uid : ℕ) (xs ys
   pub kept : (l : Line) → On xs l → On ys l
   pub every : (l : Line) → IsLine m station day l → l.key.uid ≡ uid → On ys l
   pub few : length ys ≤ length xs + 2
-  pub distinct : apart line_before line_key xs ≡ true → apart line_before line_key ys ≡ true
+  pub distinct : has_distinct_keys line_before line_key xs ≡ true → has_distinct_keys line_before line_key ys ≡ true
 
 -- all lines, and no other
 pub record AllLines (m : List Record) (station : List ℕ) (day : ℕ) (ys : List Line) : Type 0 where
   pub only : (l : Line) → On ys l → IsLine m station day l
   pub every : (l : Line) → IsLine m station day l → On ys l
-  pub distinct : apart line_before line_key ys ≡ true
+  pub distinct : has_distinct_keys line_before line_key ys ≡ true
 
 -- lines were added behind those that were there: the slots past them keep what they had
 pub record Grown (s t : Slots Line) : Type 0 where

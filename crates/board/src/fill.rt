@@ -20,23 +20,23 @@ use schedule::record::Record;
 use timetable::Timetable;
 
 // The line of the call at a place, if it has one.
-fn line_at(plain: &Record, place: u8, station: &[u8; 7]) -> Option<Line>
-    ensures { result ≡ line_at station.now plain.now place }
+fn line_at(fields: &Record, place: u8, station: &[u8; 7]) -> Option<Line>
+    ensures { result ≡ line_at station.now fields.now place }
 {
-    let call = plain.calls.get(place as usize)?;
+    let call = fields.calls.get(place as usize)?;
     if !is_at(call, station) {
         return None;
     }
     let minute = call.departure?;
     let key = LineKey {
         minute,
-        uid: plain.key.uid,
+        uid: fields.key.uid,
         place,
     };
     let platform = call.platform;
-    let destination = plain.destination;
-    let train = plain.train;
-    let operator = plain.operator;
+    let destination = fields.destination;
+    let train = fields.train;
+    let operator = fields.operator;
     Some(Line {
         key,
         platform,
@@ -47,31 +47,31 @@ fn line_at(plain: &Record, place: u8, station: &[u8; 7]) -> Option<Line>
 }
 
 // Adds the line of the call at a place, if it has one.
-fn add_call(lines: &mut Slots<'_, Line>, plain: &Record, place: u8, station: &[u8; 7])
-    requires room { calls_there station.now (slice_get plain.now.calls place) ≡ true
+fn add_call(lines: &mut Slots<'_, Line>, fields: &Record, place: u8, station: &[u8; 7])
+    requires room { calls_there station.now (slice_get fields.now.calls place) ≡ true
         → length (items lines.old) < room lines.old }
-    ensures added { (xs : List Line) → Added station.now plain.now place xs (items lines.old)
-        → Fresh xs plain.now.key.uid
-        → Added station.now plain.now (place + 1) xs (items lines.new) }
+    ensures added { (xs : List Line) → Added station.now fields.now place xs (items lines.old)
+        → Fresh xs fields.now.key.uid
+        → Added station.now fields.now (place + 1) xs (items lines.new) }
     ensures grown { Grown lines.old lines.new }
 {
-    if let Some(line) = line_at(plain, place, station) {
+    if let Some(line) = line_at(fields, place, station) {
         lines.push(line);
     }
 }
 
 // Adds the lines of a schedule's calls at a station.
-pub(crate) fn add_calls(lines: &mut Slots<'_, Line>, plain: &Record, station: &[u8; 7])
-    requires count { plain.now.count ≤ 48 }
-    requires room { length (items lines.old) + visits station.now (kept_calls plain.now)
+pub(crate) fn add_calls(lines: &mut Slots<'_, Line>, fields: &Record, station: &[u8; 7])
+    requires count { fields.now.count ≤ 48 }
+    requires room { length (items lines.old) + visits station.now (kept_calls fields.now)
         ≤ room lines.old }
-    requires fresh { Fresh (items lines.old) plain.now.key.uid }
-    ensures added { Added station.now plain.now plain.now.count (items lines.old)
+    requires fresh { Fresh (items lines.old) fields.now.key.uid }
+    ensures added { Added station.now fields.now fields.now.count (items lines.old)
         (items lines.new) }
     ensures grown { Grown lines.old lines.new }
 {
-    for place in 0..plain.count {
-        add_call(lines, plain, place, station);
+    for place in 0..fields.count {
+        add_call(lines, fields, place, station);
     }
 }
 
@@ -96,10 +96,10 @@ fn add_train<T: Timetable>(
 {
     let next = walk.train(timetable, first, shown.day);
     if let Some(schedule) = &walk.best {
-        let plain = schedule.record();
-        match plain.key.stp {
+        let fields = schedule.record();
+        match fields.key.stp {
             Stp::Cancellation => {}
-            _ => add_calls(lines, plain, &shown.station),
+            _ => add_calls(lines, fields, &shown.station),
         }
     }
     next

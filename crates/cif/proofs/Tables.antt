@@ -4,19 +4,19 @@ use Rattle.std.specs.Option.{option_map}
 use Rattle.std.proofs.lemmas.Bool.Decides.{nat_tests}
 use Rattle.forms.specs.declared.letters.Stp.{Stp}
 use Rattle.forms.specs.declared.letters.Coverage.{Coverage}
-use Rattle.forms.specs.declared.letters.Transaction.{Transaction}
-use Rattle.forms.specs.declared.letters.Transaction.TheVariants.{New as AsNew, Revise as AsRevised, Delete as AsDeleted}
+use Rattle.forms.specs.declared.letters.TransactionType.{TransactionType}
+use Rattle.forms.specs.declared.letters.TransactionType.TheVariants.{New as AsNew, Revise as AsRevised, Delete as AsDeleted}
 use Rattle.cif.specs.declared.refusal.Refusal.TheVariants.{RowLength, BadByte, UnknownIdentity, EndsBeforeStart}
 use Rattle.cif.specs.declared.refusal.ColumnFault.{ColumnFault}
 use Rattle.cif.specs.declared.identity.Identity.{Identity}
-use Rattle.cif.specs.declared.identity.Identity.TheVariants.{Header, BasicSchedule, BasicExtra, Origin, Intermediate, Terminus, ChangeEnRoute, LocationInsert, LocationAmend, LocationDelete, Association, Trailer}
+use Rattle.cif.specs.declared.identity.Identity.TheVariants.{Header, BasicSchedule, BasicExtra, Origin, Intermediate, Terminus, ChangeEnRoute, TiplocInsert, TiplocAmend, TiplocDelete, Association, Trailer}
 use Rattle.cif.specs.declared.content.BasicSchedule.{BasicSchedule as Schedule}
 use Rattle.cif.specs.declared.content.Running.{Running}
-use Rattle.cif.specs.Refusals.{number_of, fault_at, in_row, TableLine, line, uppermost, missing, form_line, formed, then, raised, fault_of}
+use Rattle.cif.specs.Refusals.{number_of, fault_at, in_row, TableLine, line, uppermost, is_missing, form_line, field_at, then, map_err, fault_of}
 use Rattle.cif.specs.Rows.{identity_in, first_bad, column_or0}
 use Rattle.cif.specs.declared.content.Header.{Header as HeaderFields}
 use Rattle.cif.specs.declared.content.Location.{Location}
-use Rattle.cif.specs.Fields.{current_reference, last_reference, coverage_of, tiploc_of, suffix_of, time_at, platform_at, header_in, header_lines, transaction_of, uid_of, from_of, to_of, days_of, train_of, stp_of, reads_all, ends_before, line_under, change_in, runs_on, schedule_in, schedule_lines, operator_in, operator_lines, operator_of, origin_in, end_lines, intermediate_in, intermediate_lines, terminus_in}
+use Rattle.cif.specs.Fields.{current_reference, last_reference, coverage_of, tiploc_of, suffix_of, time_at, platform_at, header_in, header_lines, transaction_of, uid_of, from_of, to_of, days_of, train_of, stp_of, reads_all, ends_before, line_under, action_in, runs_on, schedule_in, schedule_lines, operator_in, operator_lines, operator_of, origin_in, end_lines, intermediate_in, intermediate_lines, terminus_in}
 use Rattle.cif.specs.Reading.{letters_in, blanks, content_in, read_in, field_lines, field_lines_in, told_in, fault_by_table}
 
 abbrev headed : List ℕ → List ℕ → Coverage → HeaderFields
@@ -28,7 +28,7 @@ located t s a d p = record { tiploc = t; suffix = s; arrival = a; departure = d;
 -- fields that are read one after another are told in that order
 module _ {A B C Y : Type 0} where
   three_told : (a : Option A) (b : Option B) (c : Option C) (p q r : ℕ) (k : A → B → C → Y)
-      → fault_of (then (formed p a) (λ x. then (formed q b) (λ y. then (formed r c) (λ z. Ok (k x y z))))) ≡ uppermost (form_line p a ∷ form_line q b ∷ form_line r c ∷ [])
+      → fault_of (then (field_at p a) (λ x. then (field_at q b) (λ y. then (field_at r c) (λ z. Ok (k x y z))))) ≡ uppermost (form_line p a ∷ form_line q b ∷ form_line r c ∷ [])
   three_told None b c p q r k = refl
   three_told (Some x) None c p q r k = refl
   three_told (Some x) (Some y) None p q r k = refl
@@ -36,14 +36,14 @@ module _ {A B C Y : Type 0} where
 
 module _ {A B C D Y : Type 0} where
   four_told : (a : Option A) (b : Option B) (c : Option C) (d : Option D) (p q r s : ℕ) (k : A → B → C → D → Y)
-      → fault_of (then (formed p a) (λ x. then (formed q b) (λ y. then (formed r c) (λ z. then (formed s d) (λ v. Ok (k x y z v))))))
+      → fault_of (then (field_at p a) (λ x. then (field_at q b) (λ y. then (field_at r c) (λ z. then (field_at s d) (λ v. Ok (k x y z v))))))
       ≡ uppermost (form_line p a ∷ form_line q b ∷ form_line r c ∷ form_line s d ∷ [])
   four_told None b c d p q r s k = refl
   four_told (Some x) b c d p q r s k = three_told b c d q r s (k x)
 
 module _ {A B C D E Y : Type 0} where
   five_told : (a : Option A) (b : Option B) (c : Option C) (d : Option D) (e : Option E) (p q r s t : ℕ) (k : A → B → C → D → E → Y)
-      → fault_of (then (formed p a) (λ x. then (formed q b) (λ y. then (formed r c) (λ z. then (formed s d) (λ v. then (formed t e) (λ w. Ok (k x y z v w)))))))
+      → fault_of (then (field_at p a) (λ x. then (field_at q b) (λ y. then (field_at r c) (λ z. then (field_at s d) (λ v. then (field_at t e) (λ w. Ok (k x y z v w)))))))
       ≡ uppermost (form_line p a ∷ form_line q b ∷ form_line r c ∷ form_line s d ∷ form_line t e ∷ [])
   five_told None b c d e p q r s t k = refl
   five_told (Some x) b c d e p q r s t k = four_told b c d e q r s t (k x)
@@ -70,7 +70,7 @@ intermediate_told row =
 operator_told : (row : List ℕ) → fault_of (operator_in row) ≡ uppermost (operator_lines row)
 operator_told row = one (operator_of row)
   where
-    one : (o : Option (List ℕ)) → fault_of (formed 12 o) ≡ uppermost (form_line 12 o ∷ [])
+    one : (o : Option (List ℕ)) → fault_of (field_at 12 o) ≡ uppermost (form_line 12 o ∷ [])
     one (Some x) = refl
     one None = refl
 
@@ -81,19 +81,19 @@ order_last from to y = grind (arith, nat_tests)
 
 module _ (ui : Option ℕ) (fr to : Option (ℕ × ℕ)) (da : Option (List Bool)) (tn : Option (List ℕ)) (st : Option Stp) where
   abbrev running : Result Running ColumnFault
-  running = then (formed 16 to) (λ t. then (formed 22 da) (λ d. then (formed 33 tn) (λ i. Ok (record { to = t; days = d; train = i }))))
+  running = then (field_at 16 to) (λ t. then (field_at 22 da) (λ d. then (field_at 33 tn) (λ i. Ok (record { to = t; days = d; train = i }))))
 
-  abbrev nested : Option Transaction → Result Schedule ColumnFault
+  abbrev nested : Option TransactionType → Result Schedule ColumnFault
   nested tr =
-      then (formed 3 tr) (λ t. then (formed 4 ui) (λ u. then (formed 10 fr) (λ f. then (change_in t running) (λ c. then (formed 80 st) (λ s.
-      cond (runs_on f c) (Ok (record { uid = u; from = f; stp = s; change = c })) (Err (fault_at EndsBeforeStart 16)))))))
+      then (field_at 3 tr) (λ t. then (field_at 4 ui) (λ u. then (field_at 10 fr) (λ f. then (action_in t running) (λ c. then (field_at 80 st) (λ s.
+      cond (runs_on f c) (Ok (record { uid = u; from = f; stp = s; action = c })) (Err (fault_at EndsBeforeStart 16)))))))
 
-  abbrev lines : Option Transaction → List TableLine
+  abbrev lines : Option TransactionType → List TableLine
   lines tr =
       form_line 3 tr ∷ form_line 4 ui ∷ form_line 10 fr ∷ line_under (reads_all tr) (form_line 16 to) ∷ line_under (reads_all tr) (form_line 22 da) ∷ line_under (reads_all tr) (form_line 33 tn)
       ∷ form_line 80 st ∷ line_under (reads_all tr) (line EndsBeforeStart 16 (ends_before fr to)) ∷ []
 
-nested_told : (tr : Option Transaction) (ui : Option ℕ) (fr to : Option (ℕ × ℕ)) (da : Option (List Bool)) (tn : Option (List ℕ)) (st : Option Stp)
+nested_told : (tr : Option TransactionType) (ui : Option ℕ) (fr to : Option (ℕ × ℕ)) (da : Option (List Bool)) (tn : Option (List ℕ)) (st : Option Stp)
     → fault_of (nested ui fr to da tn st tr) ≡ uppermost (lines ui fr to da tn st tr)
 nested_told None ui fr to da tn st = refl
 nested_told (Some t) None fr to da tn st = refl
@@ -127,14 +127,14 @@ content_told Origin row = named_told (origin_in row) _ ∙ origin_told row
 content_told Intermediate row = named_told (intermediate_in row) _ ∙ intermediate_told row
 content_told Terminus row = named_told (terminus_in row) _ ∙ terminus_told row
 content_told ChangeEnRoute row = refl
-content_told LocationInsert row = refl
-content_told LocationAmend row = refl
-content_told LocationDelete row = refl
+content_told TiplocInsert row = refl
+content_told TiplocAmend row = refl
+content_told TiplocDelete row = refl
 content_told Association row = refl
 content_told Trailer row = refl
 
 -- a fault that is carried up is the lower one, carried up
-pub raised_told : {X E F : Type 0} (f : E → F) (r : Result X E) → fault_of (raised f r) ≡ option_map f (fault_of r)
+pub raised_told : {X E F : Type 0} (f : E → F) (r : Result X E) → fault_of (map_err f r) ≡ option_map f (fault_of r)
 raised_told f (Ok x) = refl
 raised_told f (Err e) = refl
 
@@ -156,9 +156,9 @@ fields_late Origin row = (refl, (refl, (refl, (refl, tt))))
 fields_late Intermediate row = (refl, (refl, (refl, (refl, (refl, tt)))))
 fields_late Terminus row = (refl, (refl, (refl, (refl, tt))))
 fields_late ChangeEnRoute row = tt
-fields_late LocationInsert row = tt
-fields_late LocationAmend row = tt
-fields_late LocationDelete row = tt
+fields_late TiplocInsert row = tt
+fields_late TiplocAmend row = tt
+fields_late TiplocDelete row = tt
 fields_late Association row = tt
 fields_late Trailer row = tt
 
@@ -170,13 +170,13 @@ whole_of long bad id =
     (Err (fault_at RowLength 0))
 
 abbrev whole_lines : Bool → Option ℕ → Option Identity → List TableLine
-whole_lines long bad id = line RowLength 0 (not long) ∷ line BadByte (column_or0 bad) (not (missing bad)) ∷ line UnknownIdentity 1 (missing id) ∷ []
+whole_lines long bad id = line RowLength 0 (not long) ∷ line BadByte (column_or0 bad) (not (is_missing bad)) ∷ line UnknownIdentity 1 (is_missing id) ∷ []
 
 pub read_told : (row : List ℕ) → fault_of (read_in row) ≡ fault_by_table row
 read_told row = at (eqb (length row) 80) (first_bad row) (identity_in row)
   where
     at : (long : Bool) (bad : Option ℕ) (id : Option Identity)
-        → fault_of (then (raised (in_row blanks) (whole_of long bad id)) (λ i. raised (in_row (letters_in row)) (content_in i row)))
+        → fault_of (then (map_err (in_row blanks) (whole_of long bad id)) (λ i. map_err (in_row (letters_in row)) (content_in i row)))
         ≡ option_map (told_in row) (uppermost (whole_lines long bad id ++ field_lines_in id row))
     at false bad id = refl
     at true (Some column) id = refl

@@ -22,8 +22,3 @@ location_of (Origin l) = Some l
 location_of (Intermediate l) = Some l
 location_of (Terminus l) = Some l
 location_of _ = None
-
--- the location at which a train ends, of an LT row
-abbrev pub terminus_of : Content → Option Location
-terminus_of (Terminus l) = Some l
-terminus_of _ = None

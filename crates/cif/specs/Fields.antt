@@ -1,8 +1,8 @@
 -- The fields of each kind of row, at their columns, and what the row holds.
 use Rattle.std.specs.Prelude.{ℕ, ◌+◌, Bool, true, false, cond, ◌&&◌, List, [], ◌∷◌, Some, None, Ok, Err, Option, Result, nat_le, nat_lt}
 use Rattle.forms.specs.declared.letters.Stp.{Stp}
-use Rattle.forms.specs.declared.letters.Transaction.{Transaction}
-use Rattle.forms.specs.declared.letters.Transaction.TheVariants.{New as AsNew, Revise as AsRevised, Delete as AsDeleted}
+use Rattle.forms.specs.declared.letters.TransactionType.{TransactionType}
+use Rattle.forms.specs.declared.letters.TransactionType.TheVariants.{New as AsNew, Revise as AsRevised, Delete as AsDeleted}
 use Rattle.forms.specs.declared.letters.Coverage.{Coverage}
 use Rattle.forms.specs.declared.text.Alphabet.TheVariants.{Labels}
 use Rattle.forms.specs.Bytes.{columns, byte_at}
@@ -12,11 +12,11 @@ use Rattle.cif.specs.declared.refusal.Refusal.TheVariants.{EndsBeforeStart}
 use Rattle.cif.specs.declared.refusal.ColumnFault.{ColumnFault}
 use Rattle.cif.specs.declared.content.Header.{Header}
 use Rattle.cif.specs.declared.content.BasicSchedule.{BasicSchedule}
-use Rattle.cif.specs.declared.content.Change.{Change}
-use Rattle.cif.specs.declared.content.Change.TheVariants.{New, Revise, Delete}
+use Rattle.cif.specs.declared.content.Action.{Action}
+use Rattle.cif.specs.declared.content.Action.TheVariants.{New, Revise, Delete}
 use Rattle.cif.specs.declared.content.Running.{Running}
 use Rattle.cif.specs.declared.content.Location.{Location}
-use Rattle.cif.specs.Refusals.{TableLine, line, form_line, fault_at, formed, then}
+use Rattle.cif.specs.Refusals.{TableLine, line, form_line, fault_at, field_at, then}
 
 -- HD: the current and the last file reference, full or update
 abbrev pub current_reference : List ℕ → Option (List ℕ)
@@ -35,13 +35,13 @@ header_lines row = form_line 33 (current_reference row) ∷ form_line 40 (last_r
 -- what an HD row holds, or the fault of its leftmost field without its form
 abbrev pub header_in : List ℕ → Result Header ColumnFault
 header_in row =
-    then (formed 33 (current_reference row)) (λ c.
-    then (formed 40 (last_reference row)) (λ l.
-    then (formed 47 (coverage_of row)) (λ k.
+    then (field_at 33 (current_reference row)) (λ c.
+    then (field_at 40 (last_reference row)) (λ l.
+    then (field_at 47 (coverage_of row)) (λ k.
     Ok (record { current = c; last = l; coverage = k }))))
 
 -- BS: transaction, UID, first and last day, days run, train identity, STP letter
-abbrev pub transaction_of : List ℕ → Option Transaction
+abbrev pub transaction_of : List ℕ → Option TransactionType
 transaction_of row = transaction_in (byte_at 3 row)
 
 abbrev pub uid_of : List ℕ → Option ℕ
@@ -63,7 +63,7 @@ abbrev pub stp_of : List ℕ → Option Stp
 stp_of row = stp_in (byte_at 80 row)
 
 -- whether a transaction is known and is no deletion, so that all fields are read
-abbrev pub reads_all : Option Transaction → Bool
+abbrev pub reads_all : Option TransactionType → Bool
 reads_all (Some AsNew) = true
 reads_all (Some AsRevised) = true
 reads_all _ = false
@@ -93,19 +93,19 @@ schedule_lines row =
 -- what columns 16 to 36 hold
 abbrev pub running_in : List ℕ → Result Running ColumnFault
 running_in row =
-    then (formed 16 (to_of row)) (λ t.
-    then (formed 22 (days_of row)) (λ d.
-    then (formed 33 (train_of row)) (λ i.
+    then (field_at 16 (to_of row)) (λ t.
+    then (field_at 22 (days_of row)) (λ d.
+    then (field_at 33 (train_of row)) (λ i.
     Ok (record { to = t; days = d; train = i }))))
 
 -- what is done with the schedule, by the transaction; a deletion asks for no more
-abbrev pub change_in : Transaction → Result Running ColumnFault → Result Change ColumnFault
-change_in AsNew running = then running (λ r. Ok (New r))
-change_in AsRevised running = then running (λ r. Ok (Revise r))
-change_in AsDeleted running = Ok Delete
+abbrev pub action_in : TransactionType → Result Running ColumnFault → Result Action ColumnFault
+action_in AsNew running = then running (λ r. Ok (New r))
+action_in AsRevised running = then running (λ r. Ok (Revise r))
+action_in AsDeleted running = Ok Delete
 
 -- whether a train that runs from a day on runs to that day or a later one
-abbrev pub runs_on : (ℕ × ℕ) → Change → Bool
+abbrev pub runs_on : (ℕ × ℕ) → Action → Bool
 runs_on from (New r) = nat_le from.0 r.to.0
 runs_on from (Revise r) = nat_le from.0 r.to.0
 runs_on from Delete = true
@@ -113,12 +113,12 @@ runs_on from Delete = true
 -- what a BS row holds, or its first fault
 abbrev pub schedule_in : List ℕ → Result BasicSchedule ColumnFault
 schedule_in row =
-    then (formed 3 (transaction_of row)) (λ t.
-    then (formed 4 (uid_of row)) (λ u.
-    then (formed 10 (from_of row)) (λ f.
-    then (change_in t (running_in row)) (λ c.
-    then (formed 80 (stp_of row)) (λ s.
-    cond (runs_on f c) (Ok (record { uid = u; from = f; stp = s; change = c })) (Err (fault_at EndsBeforeStart 16)))))))
+    then (field_at 3 (transaction_of row)) (λ t.
+    then (field_at 4 (uid_of row)) (λ u.
+    then (field_at 10 (from_of row)) (λ f.
+    then (action_in t (running_in row)) (λ c.
+    then (field_at 80 (stp_of row)) (λ s.
+    cond (runs_on f c) (Ok (record { uid = u; from = f; stp = s; action = c })) (Err (fault_at EndsBeforeStart 16)))))))
 
 -- BX: the operator
 abbrev pub operator_of : List ℕ → Option (List ℕ)
@@ -130,7 +130,7 @@ operator_lines row = form_line 12 (operator_of row) ∷ []
 
 -- what a BX row holds
 abbrev pub operator_in : List ℕ → Result (List ℕ) ColumnFault
-operator_in row = formed 12 (operator_of row)
+operator_in row = field_at 12 (operator_of row)
 
 -- LO, LI and LT: TIPLOC and suffix, then public times and platform at columns of their own
 abbrev pub tiploc_of : List ℕ → Option (List ℕ)
@@ -159,27 +159,27 @@ intermediate_lines row =
 -- the origin has a departure only
 abbrev pub origin_in : List ℕ → Result Location ColumnFault
 origin_in row =
-    then (formed 3 (tiploc_of row)) (λ t.
-    then (formed 10 (suffix_of row)) (λ s.
-    then (formed 16 (time_at 16 row)) (λ d.
-    then (formed 20 (platform_at 20 row)) (λ p.
+    then (field_at 3 (tiploc_of row)) (λ t.
+    then (field_at 10 (suffix_of row)) (λ s.
+    then (field_at 16 (time_at 16 row)) (λ d.
+    then (field_at 20 (platform_at 20 row)) (λ p.
     Ok (record { tiploc = t; suffix = s; arrival = None; departure = d; platform = p })))))
 
 -- an intermediate location has both
 abbrev pub intermediate_in : List ℕ → Result Location ColumnFault
 intermediate_in row =
-    then (formed 3 (tiploc_of row)) (λ t.
-    then (formed 10 (suffix_of row)) (λ s.
-    then (formed 26 (time_at 26 row)) (λ a.
-    then (formed 30 (time_at 30 row)) (λ d.
-    then (formed 34 (platform_at 34 row)) (λ p.
+    then (field_at 3 (tiploc_of row)) (λ t.
+    then (field_at 10 (suffix_of row)) (λ s.
+    then (field_at 26 (time_at 26 row)) (λ a.
+    then (field_at 30 (time_at 30 row)) (λ d.
+    then (field_at 34 (platform_at 34 row)) (λ p.
     Ok (record { tiploc = t; suffix = s; arrival = a; departure = d; platform = p }))))))
 
 -- the terminus has an arrival only
 abbrev pub terminus_in : List ℕ → Result Location ColumnFault
 terminus_in row =
-    then (formed 3 (tiploc_of row)) (λ t.
-    then (formed 10 (suffix_of row)) (λ s.
-    then (formed 16 (time_at 16 row)) (λ a.
-    then (formed 20 (platform_at 20 row)) (λ p.
+    then (field_at 3 (tiploc_of row)) (λ t.
+    then (field_at 10 (suffix_of row)) (λ s.
+    then (field_at 16 (time_at 16 row)) (λ a.
+    then (field_at 20 (platform_at 20 row)) (λ p.
     Ok (record { tiploc = t; suffix = s; arrival = a; departure = None; platform = p })))))

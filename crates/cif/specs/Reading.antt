@@ -8,7 +8,7 @@ use Rattle.cif.specs.declared.identity.Identity.{Identity}
 use Rattle.cif.specs.declared.identity.Identity.TheVariants.{Header, BasicSchedule, BasicExtra, Origin, Intermediate, Terminus}
 use Rattle.cif.specs.declared.content.Content.{Content}
 use Rattle.cif.specs.declared.content.Content.TheVariants.{Header as OfHeader, Schedule as OfSchedule, Operator as OfOperator, Origin as OfOrigin, Intermediate as OfIntermediate, Terminus as OfTerminus, Unread}
-use Rattle.cif.specs.Refusals.{number_of, in_row, TableLine, uppermost, then, raised, fault_of}
+use Rattle.cif.specs.Refusals.{number_of, in_row, TableLine, uppermost, then, map_err, fault_of}
 use Rattle.cif.specs.Rows.{identity_in, row_lines, whole_in}
 use Rattle.cif.specs.Fields.{header_in, header_lines, schedule_in, schedule_lines, operator_in, operator_lines, origin_in, end_lines, intermediate_in, intermediate_lines, terminus_in}
 
@@ -33,8 +33,8 @@ content_in other row = Ok (Unread other)
 -- what any bytes hold as a row, or the fault
 abbrev pub read_in : List ℕ → Result Content RowFault
 read_in row =
-    then (raised (in_row blanks) (whole_in row)) (λ i.
-    raised (in_row (letters_in row)) (content_in i row))
+    then (map_err (in_row blanks) (whole_in row)) (λ i.
+    map_err (in_row (letters_in row)) (content_in i row))
 
 -- the lines of the fields that a row of an identity has read
 abbrev pub field_lines : Identity → List ℕ → List TableLine

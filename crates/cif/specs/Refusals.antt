@@ -45,18 +45,18 @@ uppermost [] = None
 uppermost (l ∷ ls) = cond l.1 (Some l.0) (uppermost ls)
 
 -- whether there is no value
-abbrev pub missing : {X : Type 0} → Option X → Bool
-missing None = true
-missing _ = false
+abbrev pub is_missing : {X : Type 0} → Option X → Bool
+is_missing None = true
+is_missing _ = false
 
 -- the line of a field: it lacks its form
 abbrev pub form_line : {X : Type 0} → ℕ → Option X → TableLine
-form_line column reading = line BadForm column (missing reading)
+form_line column reading = line BadForm column (is_missing reading)
 
 -- a field's reading, or the fault that it lacks its form
-abbrev pub formed : {X : Type 0} → ℕ → Option X → Result X ColumnFault
-formed column (Some x) = Ok x
-formed column None = Err (fault_at BadForm column)
+abbrev pub field_at : {X : Type 0} → ℕ → Option X → Result X ColumnFault
+field_at column (Some x) = Ok x
+field_at column None = Err (fault_at BadForm column)
 
 -- what a second step makes of the first one's value; the first fault is told
 abbrev pub then : {X Y E : Type 0} → Result X E → (X → Result Y E) → Result Y E
@@ -64,9 +64,9 @@ then (Ok x) f = f x
 then (Err e) f = Err e
 
 -- a result with its fault carried a level up
-abbrev pub raised : {X E F : Type 0} → (E → F) → Result X E → Result X F
-raised f (Ok x) = Ok x
-raised f (Err e) = Err (f e)
+abbrev pub map_err : {X E F : Type 0} → (E → F) → Result X E → Result X F
+map_err f (Ok x) = Ok x
+map_err f (Err e) = Err (f e)
 
 -- the fault of a result, if any
 abbrev pub fault_of : {X E : Type 0} → Result X E → Option E

@@ -7,8 +7,8 @@ use Rattle.std.specs.List.{position_from}
 use Rattle.std.specs.Option.{option_map}
 use Rattle.cif.specs.declared.identity.UnknownIdentity.{UnknownIdentity as NoIdentity}
 use Rattle.cif.specs.declared.identity.Identity.{Identity}
-use Rattle.cif.specs.declared.identity.Identity.TheVariants.{Header, BasicSchedule, BasicExtra, Origin, Intermediate, Terminus, ChangeEnRoute, LocationInsert, LocationAmend, LocationDelete, Association, Trailer}
-use Rattle.cif.specs.Refusals.{TableLine, line, missing, fault_at}
+use Rattle.cif.specs.declared.identity.Identity.TheVariants.{Header, BasicSchedule, BasicExtra, Origin, Intermediate, Terminus, ChangeEnRoute, TiplocInsert, TiplocAmend, TiplocDelete, Association, Trailer}
+use Rattle.cif.specs.Refusals.{TableLine, line, is_missing, fault_at}
 
 -- the two letters of each identity
 abbrev pub letters_of : Identity → List ℕ
@@ -19,9 +19,9 @@ letters_of Origin = codes "LO"
 letters_of Intermediate = codes "LI"
 letters_of Terminus = codes "LT"
 letters_of ChangeEnRoute = codes "CR"
-letters_of LocationInsert = codes "TI"
-letters_of LocationAmend = codes "TA"
-letters_of LocationDelete = codes "TD"
+letters_of TiplocInsert = codes "TI"
+letters_of TiplocAmend = codes "TA"
+letters_of TiplocDelete = codes "TD"
 letters_of Association = codes "AA"
 letters_of Trailer = codes "ZZ"
 
@@ -34,7 +34,7 @@ identity_among (i ∷ is) a b =
 -- the identity of two letters, if they are those of one
 abbrev pub identity_of : ℕ → ℕ → Option Identity
 identity_of a b =
-    identity_among (Header ∷ BasicSchedule ∷ BasicExtra ∷ Origin ∷ Intermediate ∷ Terminus ∷ ChangeEnRoute ∷ LocationInsert ∷ LocationAmend ∷ LocationDelete ∷ Association ∷ Trailer ∷ []) a b
+    identity_among (Header ∷ BasicSchedule ∷ BasicExtra ∷ Origin ∷ Intermediate ∷ Terminus ∷ ChangeEnRoute ∷ TiplocInsert ∷ TiplocAmend ∷ TiplocDelete ∷ Association ∷ Trailer ∷ []) a b
 
 -- the result is the identity that two letters name, or the letters that name none
 abbrev pub Names : List ℕ → Result Identity NoIdentity → Type 0
@@ -64,8 +64,8 @@ column_or0 None = 0
 abbrev pub row_lines : List ℕ → List TableLine
 row_lines row =
     line RowLength 0 (not (length row == 80))
-    ∷ line BadByte (column_or0 (first_bad row)) (not (missing (first_bad row)))
-    ∷ line UnknownIdentity 1 (missing (identity_in row))
+    ∷ line BadByte (column_or0 (first_bad row)) (not (is_missing (first_bad row)))
+    ∷ line UnknownIdentity 1 (is_missing (identity_in row))
     ∷ []
 
 -- the identity of a row that is whole, or the uppermost of these refusals

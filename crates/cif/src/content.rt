@@ -23,12 +23,12 @@ pub struct BasicSchedule {
     /// The kind of schedule.
     pub stp: Stp,
     /// What is done with the schedule.
-    pub change: Change,
+    pub action: Action,
 }
 
 /// What a BS row does with the schedule that it is about.
 #[derive(Clone, Copy, Debug, PartialEq, Eq)]
-pub enum Change {
+pub enum Action {
     /// N: it is new.
     New(Running),
     /// R: it takes the place of the one of its key.

@@ -23,11 +23,11 @@ pub enum Identity {
     /// CR: changes en route.
     ChangeEnRoute,
     /// TI: TIPLOC insert.
-    LocationInsert,
+    TiplocInsert,
     /// TA: TIPLOC amend.
-    LocationAmend,
+    TiplocAmend,
     /// TD: TIPLOC delete.
-    LocationDelete,
+    TiplocDelete,
     /// AA: association of two trains.
     Association,
     /// ZZ: trailer, which closes an extract.
@@ -62,9 +62,9 @@ impl TryFrom<[u8; 2]> for Identity {
             b"LI" => Ok(Identity::Intermediate),
             b"LT" => Ok(Identity::Terminus),
             b"CR" => Ok(Identity::ChangeEnRoute),
-            b"TI" => Ok(Identity::LocationInsert),
-            b"TA" => Ok(Identity::LocationAmend),
-            b"TD" => Ok(Identity::LocationDelete),
+            b"TI" => Ok(Identity::TiplocInsert),
+            b"TA" => Ok(Identity::TiplocAmend),
+            b"TD" => Ok(Identity::TiplocDelete),
             b"AA" => Ok(Identity::Association),
             b"ZZ" => Ok(Identity::Trailer),
             _ => Err(UnknownIdentity(letters)),
@@ -84,9 +84,9 @@ impl From<Identity> for [u8; 2] {
             Identity::Intermediate => *b"LI",
             Identity::Terminus => *b"LT",
             Identity::ChangeEnRoute => *b"CR",
-            Identity::LocationInsert => *b"TI",
-            Identity::LocationAmend => *b"TA",
-            Identity::LocationDelete => *b"TD",
+            Identity::TiplocInsert => *b"TI",
+            Identity::TiplocAmend => *b"TA",
+            Identity::TiplocDelete => *b"TD",
             Identity::Association => *b"AA",
             Identity::Trailer => *b"ZZ",
         }

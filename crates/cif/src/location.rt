@@ -1,6 +1,6 @@
 // Rows of a train's calls.
 ghost use Rattle.std.specs.Prelude.{◌≡◌, ◌+◌, ◌≤◌};
-ghost use Rattle.cif.specs.Refusals.{formed};
+ghost use Rattle.cif.specs.Refusals.{field_at};
 ghost use Rattle.cif.specs.Fields.{tiploc_of, suffix_of, time_at, platform_at, origin_in, intermediate_in, terminus_in};
 ghost use Rattle.cif.specs.WholeRows.{row_bytes};
 
@@ -14,14 +14,14 @@ use forms::text::{Alphabet, text};
 impl Row {
     // The TIPLOC, from column 3 on.
     fn tiploc_field(&self) -> Result<[u8; 7], ColumnFault>
-        ensures { result ≡ formed 3 (tiploc_of (row_bytes self.now)) }
+        ensures { result ≡ field_at 3 (tiploc_of (row_bytes self.now)) }
     {
         self.field(3, 9, tiploc)
     }
 
     // The suffix, at column 10.
     fn suffix_field(&self) -> Result<u8, ColumnFault>
-        ensures { result ≡ formed 10 (suffix_of (row_bytes self.now)) }
+        ensures { result ≡ field_at 10 (suffix_of (row_bytes self.now)) }
     {
         suffix(self.byte(10)).ok_or(Refusal::BadForm.at(10))
     }
@@ -30,7 +30,7 @@ impl Row {
     fn time_field(&self, first: u8) -> Result<Option<u16>, ColumnFault>
         requires from { 1 ≤ first }
         requires within { first ≤ 77 }
-        ensures { result ≡ formed first (time_at first (row_bytes self.now)) }
+        ensures { result ≡ field_at first (time_at first (row_bytes self.now)) }
     {
         self.field(first, first + 3, time)
     }
@@ -39,7 +39,7 @@ impl Row {
     fn platform_field(&self, first: u8) -> Result<[u8; 3], ColumnFault>
         requires from { 1 ≤ first }
         requires within { first ≤ 78 }
-        ensures { result ≡ formed first (platform_at first (row_bytes self.now)) }
+        ensures { result ≡ field_at first (platform_at first (row_bytes self.now)) }
     {
         self.field(first, first + 2, |bytes| text(Alphabet::Labels, bytes))
     }

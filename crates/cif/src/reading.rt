@@ -6,7 +6,7 @@ ghost use Rattle.cif.specs.WholeRows.{row_bytes, row_identity};
 
 use crate::content::Content;
 use crate::identity::Identity;
-use crate::refusal::{ColumnFault, RowFault, beside};
+use crate::refusal::{ColumnFault, RowFault, with_place};
 use crate::row::Row;
 
 impl Row {
@@ -37,8 +37,8 @@ impl Row {
 fn read_in_order(bytes: &[u8]) -> Result<Content, RowFault>
     ensures { result ≡ read_in bytes.now }
 {
-    let row = beside(Row::check(bytes), *b"  ")?;
-    let content = beside(row.content(), row.letters())?;
+    let row = with_place(Row::check(bytes), *b"  ")?;
+    let content = with_place(row.content(), row.letters())?;
     Ok(content)
 }
 

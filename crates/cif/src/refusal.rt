@@ -1,6 +1,6 @@
 // Why a call is turned away, and where.
 ghost use Rattle.std.specs.Prelude.{◌≡◌, Some};
-ghost use Rattle.cif.specs.Refusals.{number_of, fault_at, in_row, raised};
+ghost use Rattle.cif.specs.Refusals.{number_of, fault_at, in_row, map_err};
 ghost use Rattle.cif.specs.Texts.{words_of};
 
 use std::error::Error;
@@ -114,8 +114,8 @@ impl From<(ColumnFault, [u8; 2])> for RowFault {
 }
 
 /// A result whose fault has its place beside it, for the `?` of the level above.
-pub fn beside<T, E, P: Drop>(r: Result<T, E>, place: P) -> Result<T, (E, P)>
-    ensures { result ≡ raised (λ e. (e, place)) r }
+pub fn with_place<T, E, P: Drop>(r: Result<T, E>, place: P) -> Result<T, (E, P)>
+    ensures { result ≡ map_err (λ e. (e, place)) r }
 {
     r.map_err(|e| (e, place))
 }

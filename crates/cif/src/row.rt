@@ -1,6 +1,6 @@
 // A row that was found whole.
 ghost use Rattle.std.specs.Prelude.{◌≡◌, true, length, IsTrue};
-ghost use Rattle.cif.specs.Refusals.{missing};
+ghost use Rattle.cif.specs.Refusals.{is_missing};
 ghost use Rattle.cif.specs.Rows.{first_bad};
 
 use crate::identity::Identity;
@@ -14,5 +14,5 @@ pub struct Row {
     pub(crate) bytes: [u8; ROW_LENGTH],
     pub(crate) identity: Identity,
     ghost long: { length bytes ≡ 80 },
-    ghost printable: { IsTrue (missing (first_bad bytes)) },
+    ghost printable: { IsTrue (is_missing (first_bad bytes)) },
 }

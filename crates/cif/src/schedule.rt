@@ -1,23 +1,23 @@
 // Rows that begin a schedule.
 ghost use Rattle.std.specs.Prelude.{◌≡◌};
-ghost use Rattle.cif.specs.Fields.{running_in, change_in, runs_on, schedule_in, operator_in};
+ghost use Rattle.cif.specs.Fields.{running_in, action_in, runs_on, schedule_in, operator_in};
 ghost use Rattle.cif.specs.WholeRows.{row_bytes};
 
-use crate::content::{BasicSchedule, Change, Running};
+use crate::content::{BasicSchedule, Action, Running};
 use crate::refusal::{ColumnFault, Refusal};
 use crate::row::Row;
-use forms::letters::Transaction;
+use forms::letters::TransactionType;
 use forms::numbers::{date, uid};
 use forms::text::{Alphabet, days_run, text};
 
-impl Change {
+impl Action {
     // Whether a train that runs from a day on runs to that day or a later one.
     fn runs_on(&self, from: (u16, u8)) -> bool
         ensures { result ≡ runs_on from self.now }
     {
         match self {
-            Change::New(running) | Change::Revise(running) => from.0 <= running.to.0,
-            Change::Delete => true,
+            Action::New(running) | Action::Revise(running) => from.0 <= running.to.0,
+            Action::Delete => true,
         }
     }
 }
@@ -34,13 +34,13 @@ impl Row {
     }
 
     // What a BS row does with the schedule, by its transaction.
-    fn change(&self, transaction: Transaction) -> Result<Change, ColumnFault>
-        ensures { result ≡ change_in transaction (running_in (row_bytes self.now)) }
+    fn action(&self, transaction: TransactionType) -> Result<Action, ColumnFault>
+        ensures { result ≡ action_in transaction (running_in (row_bytes self.now)) }
     {
         match transaction {
-            Transaction::New => Ok(Change::New(self.running()?)),
-            Transaction::Revise => Ok(Change::Revise(self.running()?)),
-            Transaction::Delete => Ok(Change::Delete),
+            TransactionType::New => Ok(Action::New(self.running()?)),
+            TransactionType::Revise => Ok(Action::Revise(self.running()?)),
+            TransactionType::Delete => Ok(Action::Delete),
         }
     }
 
@@ -52,16 +52,16 @@ impl Row {
         let transaction = self.letter(3)?;
         let uid = self.field(4, 9, uid)?;
         let from = self.field(10, 15, date)?;
-        let change = self.change(transaction)?;
+        let action = self.action(transaction)?;
         let stp = self.letter(80)?;
-        if !change.runs_on(from) {
+        if !action.runs_on(from) {
             return Err(Refusal::EndsBeforeStart.at(16));
         }
         Ok(BasicSchedule {
             uid,
             from,
             stp,
-            change,
+            action,
         })
     }
 

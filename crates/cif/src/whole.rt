@@ -3,7 +3,7 @@ ghost use Rattle.std.specs.Prelude.{◌≡◌, ℕ, ◌+◌, ◌-◌, ◌<◌, �
 ghost use Rattle.forms.specs.Bytes.{columns, byte_at};
 ghost use Rattle.std.specs.Fn.{FnOnceReturnsAt};
 ghost use Rattle.std.specs.Result.{result_ok};
-ghost use Rattle.cif.specs.Refusals.{uppermost, fault_of, formed};
+ghost use Rattle.cif.specs.Refusals.{uppermost, fault_of, field_at};
 ghost use Rattle.cif.specs.Rows.{is_printable, first_bad, row_lines, whole_in};
 ghost use Rattle.cif.specs.WholeRows.{row_bytes, row_identity};
 
@@ -86,7 +86,7 @@ impl Row {
         requires callable { F.IsAlwaysCallable read }
         ensures { (found : Option T)
             × FnOnceReturnsAt F.FnOnce read (columns first last (row_bytes self.now)) found
-            × (result ≡ formed first found) }
+            × (result ≡ field_at first found) }
     {
         read(self.columns(first as usize, last as usize)).ok_or(Refusal::BadForm.at(first))
     }
@@ -99,7 +99,7 @@ impl Row {
         requires within { column ≤ ROW_LENGTH }
         ensures { (found : Result L L.Error)
             × L.try_from_gives (byte_at column (row_bytes self.now)) found
-            × (result ≡ formed column (result_ok found)) }
+            × (result ≡ field_at column (result_ok found)) }
     {
         L::try_from(self.byte(column as usize) as char)
             .ok()

@@ -5,9 +5,9 @@ use Rattle.std.proofs.lemmas.Bool.Decides.{nat_tests}
 use Rattle.cif.specs.declared.content.Content.{Content}
 use Rattle.cif.specs.declared.content.Content.TheVariants.{Header as OfHeader, Schedule as OfSchedule, Operator as OfOperator, Origin as OfOrigin, Intermediate as OfIntermediate, Terminus as OfTerminus, Unread}
 use Rattle.cif.specs.declared.identity.Identity.{Identity}
-use Rattle.cif.specs.declared.identity.Identity.TheVariants.{Header, BasicSchedule, BasicExtra, Origin, Intermediate, Terminus, ChangeEnRoute, LocationInsert, LocationAmend, LocationDelete, Association, Trailer}
+use Rattle.cif.specs.declared.identity.Identity.TheVariants.{Header, BasicSchedule, BasicExtra, Origin, Intermediate, Terminus, ChangeEnRoute, TiplocInsert, TiplocAmend, TiplocDelete, Association, Trailer}
 use Rattle.cif.specs.declared.refusal.ColumnFault.{ColumnFault}
-use Rattle.cif.specs.Refusals.{missing, then, raised, in_row, uppermost}
+use Rattle.cif.specs.Refusals.{is_missing, then, map_err, in_row, uppermost}
 use Rattle.cif.specs.Rows.{whole_in}
 use Rattle.cif.specs.Fields.{header_in, schedule_in, operator_in, origin_in, intermediate_in, terminus_in}
 use Rattle.cif.specs.Reading.{letters_in, blanks, content_in}
@@ -42,15 +42,15 @@ content_sound Origin row c h = named_sound Origin (origin_in row) OfOrigin (λ x
 content_sound Intermediate row c h = named_sound Intermediate (intermediate_in row) OfIntermediate (λ x. (refl, refl)) c h
 content_sound Terminus row c h = named_sound Terminus (terminus_in row) OfTerminus (λ x. (refl, refl)) c h
 content_sound ChangeEnRoute row c h = unread_sound ChangeEnRoute c (refl, refl) h
-content_sound LocationInsert row c h = unread_sound LocationInsert c (refl, refl) h
-content_sound LocationAmend row c h = unread_sound LocationAmend c (refl, refl) h
-content_sound LocationDelete row c h = unread_sound LocationDelete c (refl, refl) h
+content_sound TiplocInsert row c h = unread_sound TiplocInsert c (refl, refl) h
+content_sound TiplocAmend row c h = unread_sound TiplocAmend c (refl, refl) h
+content_sound TiplocDelete row c h = unread_sound TiplocDelete c (refl, refl) h
 content_sound Association row c h = unread_sound Association c (refl, refl) h
 content_sound Trailer row c h = unread_sound Trailer c (refl, refl) h
 
 -- a row that is in place is one that the stage takes
 abbrev Places : (Stage → Identity → Bool) → Type 0
-Places misplaced = (st : Stage) (i : Identity) → misplaced st i ≡ false → missing (next_stage st i false) ≡ false
+Places misplaced = (st : Stage) (i : Identity) → misplaced st i ≡ false → is_missing (next_stage st i false) ≡ false
 
 pub row_places : Places is_misplaced
 row_places st i h = grind (arith, nat_tests)
@@ -66,22 +66,22 @@ module _ (misplaced : Stage → Identity → Bool) (places : Places misplaced) (
   heard_may : bytes_verdict misplaced s row ≡ Ok p → Goal
   heard_may h = at (whole_in row) h
     where
-      judge : (i : Identity) (c : Content) → Sound i c → missing (next_stage s.extract.stage i false) ≡ false → (o : Option ColumnFault) → uppermost (content_lines s c) ≡ o → raised (in_row (letters_in row)) (elim o [ Some f ↦ Err f | None ↦ Ok (after s.extract c) ]) ≡ Ok p → Goal
+      judge : (i : Identity) (c : Content) → Sound i c → is_missing (next_stage s.extract.stage i false) ≡ false → (o : Option ColumnFault) → uppermost (content_lines s c) ≡ o → map_err (in_row (letters_in row)) (elim o [ Some f ↦ Err f | None ↦ Ok (after s.extract c) ]) ≡ Ok p → Goal
       judge i c sound taken (Some f) e h = err_ok _ p _ refl h
       judge i c sound taken None e h =
           let same : after s.extract c ≡ p = ok_is _ (after s.extract c) p refl h in
           subst (λ (q : Progress). MayGoOn s.store q) same
-          (may_after s is within may c sound.1 (ap (λ (q : Progress). is_lawful q.draft) same ∙ draft) (ap (λ (q : Progress). every_lawful q.changes) same ∙ lawful) (ap (λ j. missing (next_stage s.extract.stage j false)) sound.0 ∙ taken) e)
+          (may_after s is within may c sound.1 (ap (λ (q : Progress). is_lawful q.draft) same ∙ draft) (ap (λ (q : Progress). every_lawful q.changes) same ∙ lawful) (ap (λ j. is_missing (next_stage s.extract.stage j false)) sound.0 ∙ taken) e)
 
-      content : (i : Identity) → missing (next_stage s.extract.stage i false) ≡ false → (r : Result Content ColumnFault) → content_in i row ≡ r → raised (in_row (letters_in row)) (then r (λ c. verdict_on s c)) ≡ Ok p → Goal
+      content : (i : Identity) → is_missing (next_stage s.extract.stage i false) ≡ false → (r : Result Content ColumnFault) → content_in i row ≡ r → map_err (in_row (letters_in row)) (then r (λ c. verdict_on s c)) ≡ Ok p → Goal
       content i taken (Err e) q h = err_ok _ p _ refl h
       content i taken (Ok c) q h = judge i c (content_sound i row c q) taken (uppermost (content_lines s c)) refl h
 
-      place : (i : Identity) (b : Bool) → misplaced s.extract.stage i ≡ b → raised (in_row (letters_in row)) (verdict_unless b s i row) ≡ Ok p → Goal
+      place : (i : Identity) (b : Bool) → misplaced s.extract.stage i ≡ b → map_err (in_row (letters_in row)) (verdict_unless b s i row) ≡ Ok p → Goal
       place i true q h = err_ok _ p _ refl h
       place i false q h = content i (places s.extract.stage i q) (content_in i row) refl h
 
-      at : (whole : Result Identity ColumnFault) → then (raised (in_row blanks) whole) (λ i. raised (in_row (letters_in row)) (verdict_unless (misplaced s.extract.stage i) s i row)) ≡ Ok p → Goal
+      at : (whole : Result Identity ColumnFault) → then (map_err (in_row blanks) whole) (λ i. map_err (in_row (letters_in row)) (verdict_unless (misplaced s.extract.stage i) s i row)) ≡ Ok p → Goal
       at (Err e) h = err_ok _ p _ refl h
       at (Ok i) h = place i (misplaced s.extract.stage i) refl h
 

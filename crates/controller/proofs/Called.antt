@@ -4,12 +4,12 @@ use Rattle.std.specs.Option.{option_map}
 use Rattle.std.proofs.lemmas.Bool.{true≢false}
 use Rattle.cif.specs.declared.refusal.ColumnFault.{ColumnFault}
 use Rattle.cif.specs.declared.refusal.RowFault.{RowFault}
-use Rattle.cif.specs.Refusals.{uppermost, raised, fault_of, in_row}
+use Rattle.cif.specs.Refusals.{uppermost, map_err, fault_of, in_row}
 use Rattle.cif.specs.Reading.{told_in, blanks}
 use Rattle.cif.proofs.Tables.{raised_told}
 use Rattle.schedule.specs.declared.transaction.Transaction.{Transaction}
 use Rattle.schedule.specs.declared.transaction.Transaction.TheVariants.{New as IsNew, Revise as IsRevised, Delete as IsDeleted}
-use Rattle.schedule.specs.Transactions.{plain_of, is_lawful}
+use Rattle.schedule.specs.Transactions.{change_of, is_lawful}
 use Rattle.timetable.specs.Timetables.{Meaning, IsMap, IsWithinCapacity}
 use Rattle.extract.specs.Progress.{Progress, idle}
 use Rattle.extract.specs.Judging.{Standing, is_misplaced, is_no_opening, GoesBy}
@@ -19,7 +19,7 @@ use Rattle.controller.specs.Calls.{Open, Row, refusals, refusal_of, bytes_verdic
 use Rattle.controller.specs.Agreeing.{Agrees}
 use Rattle.controller.proofs.Heard.{heard_told}
 
-pub ok_raised : {X E F : Type 0} (f : E → F) (r : Result X E) → is_ok (raised f r) ≡ is_ok r
+pub ok_raised : {X E F : Type 0} (f : E → F) (r : Result X E) → is_ok (map_err f r) ≡ is_ok r
 ok_raised f (Ok x) = refl
 ok_raised f (Err e) = refl
 
@@ -36,7 +36,7 @@ mapped_both : {X Y Z : Type 0} (g : Y → Z) (f : X → Y) (o : Option X) → op
 mapped_both g f (Some x) = refl
 mapped_both g f None = refl
 
-module _ (s : Standing) (row : List ℕ) (p : Progress) (r : Result (Unit {0}) RowFault) (out : Result (Unit {0}) ExtractFault) (e : out ≡ raised (in_extract (s.extract.taken + 1)) r) where
+module _ (s : Standing) (row : List ℕ) (p : Progress) (r : Result (Unit {0}) RowFault) (out : Result (Unit {0}) ExtractFault) (e : out ≡ map_err (in_extract (s.extract.taken + 1)) r) where
   carried : (rule : Result Progress RowFault) → GoesBy p rule r → fault_of out ≡ option_map (in_extract (s.extract.taken + 1)) (fault_of rule)
   carried rule h = ap fault_of e ∙ (raised_told (in_extract (s.extract.taken + 1)) r ∙ ap (option_map (in_extract (s.extract.taken + 1))) (told_fault p rule r h))
 
@@ -63,9 +63,9 @@ idle_agrees store p e is within = subst (λ (q : Progress). Agrees store [] q) (
 })
 
 -- a fault of a call that has no row
-module _ {X : Type 0} (r : Result X ColumnFault) (out : Result X ExtractFault) (e : out ≡ raised (in_extract 0) (raised (in_row blanks) r)) where
+module _ {X : Type 0} (r : Result X ColumnFault) (out : Result X ExtractFault) (e : out ≡ map_err (in_extract 0) (map_err (in_row blanks) r)) where
   pub no_row_ok : is_ok out ≡ is_ok r
-  no_row_ok = ap is_ok e ∙ (ok_raised (in_extract 0) (raised (in_row blanks) r) ∙ ok_raised (in_row blanks) r)
+  no_row_ok = ap is_ok e ∙ (ok_raised (in_extract 0) (map_err (in_row blanks) r) ∙ ok_raised (in_row blanks) r)
 
 -- what holds where a call was done, by a test of its result
 pub on_ok : {X E : Type 0} (P : Type 0) (r : Result X E) → (is_ok r ≡ true → P) → OnOk r P
@@ -86,7 +86,7 @@ at_err P (Ok x) h e = absurd (true≢false e)
 at_err P (Err f) h e = h
 
 -- a transaction is lawful, since the schedule that it brings is one
-pub transaction_lawful : (t : Transaction) → is_lawful (plain_of t) ≡ true
+pub transaction_lawful : (t : Transaction) → is_lawful (change_of t) ≡ true
 transaction_lawful (IsNew s) = s.valid
 transaction_lawful (IsRevised s) = s.valid
 transaction_lawful (IsDeleted k) = refl

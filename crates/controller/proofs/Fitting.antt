@@ -3,14 +3,14 @@ use Rattle.std.proofs.Common.{◌≡◌, ℕ, ◌+◌, ◌≤◌, Bool, true, fa
 use Rattle.std.proofs.lemmas.Bool.{true≢false, not-false, eqb-false, and_parts}
 use Rattle.std.proofs.lemmas.Bool.Decides.{nat_tests}
 use Rattle.cif.specs.declared.content.BasicSchedule.{BasicSchedule}
-use Rattle.cif.specs.declared.content.Change.{Change as Asked}
-use Rattle.cif.specs.declared.content.Change.TheVariants.{New as AsksNew, Revise as AsksRevise, Delete as AsksDelete}
+use Rattle.cif.specs.declared.content.Action.{Action}
+use Rattle.cif.specs.declared.content.Action.TheVariants.{New as AsksNew, Revise as AsksRevise, Delete as AsksDelete}
 use Rattle.cif.specs.declared.content.Location.{Location}
 use Rattle.cif.specs.declared.content.Content.{Content}
 use Rattle.cif.specs.declared.content.Content.TheVariants.{Header, Schedule, Operator, Origin, Intermediate, Terminus, Unread}
 use Rattle.cif.specs.declared.identity.Identity.TheVariants.{Header as IsHeader, BasicSchedule as IsSchedule, BasicExtra as IsExtra, Origin as IsOrigin, Intermediate as IsIntermediate, Terminus as IsTerminus}
 use Rattle.cif.specs.declared.identity.Identity.{Identity}
-use Rattle.cif.specs.Refusals.{uppermost, missing}
+use Rattle.cif.specs.Refusals.{uppermost, is_missing}
 use Rattle.maps.proofs.Maps.{some_none}
 use Rattle.schedule.specs.declared.record.Record.{Record}
 use Rattle.schedule.specs.declared.transaction.Change.{Change}
@@ -88,12 +88,12 @@ module _ (s : Standing) (is : IsMap s.store.map) (within : IsWithinCapacity s.st
   few = each_within s.store cs is within may.pending
 
   -- the transaction that a BS asks for may be done, where no line holds
-  asked_may : (b : BasicSchedule) → is_lawful (asked_by b b.change) ≡ true → uppermost (content_lines s (Schedule b)) ≡ None → MayBeDone (overlay_in s) (asked_by b b.change)
+  asked_may : (b : BasicSchedule) → is_lawful (asked_by b b.action) ≡ true → uppermost (content_lines s (Schedule b)) ≡ None → MayBeDone (overlay_in s) (asked_by b b.action)
   asked_may b lawful h =
-      let none = no_line (asks_new b.change) (is_there s b) (past_rows s (Schedule b) || past_transactions s (Schedule b)) (is_full (overlay_in s)) h in
-      of b.change lawful none.0 none.1 none.2
+      let none = no_line (asks_new b.action) (is_there s b) (past_rows s (Schedule b) || past_transactions s (Schedule b)) (is_full (overlay_in s)) h in
+      of b.action lawful none.0 none.1 none.2
     where
-      of : (c : Asked) → is_lawful (asked_by b c) ≡ true → (asks_new c && is_there s b) ≡ false → (not (asks_new c) && not (is_there s b)) ≡ false → (asks_new c && is_full (overlay_in s)) ≡ false
+      of : (c : Action) → is_lawful (asked_by b c) ≡ true → (asks_new c && is_there s b) ≡ false → (not (asks_new c) && not (is_there s b)) ≡ false → (asks_new c && is_full (overlay_in s)) ≡ false
           → MayBeDone (overlay_in s) (asked_by b c)
       of (AsksNew d) l p q r = (l, p, (let u = eqb-false (length (overlay_in s).map) s.store.capacity r in let f = few in omega arith))
       of (AsksRevise d) l p q r = (l, not-false (is_there s b) q)
@@ -107,7 +107,7 @@ module _ (s : Standing) (is : IsMap s.store.map) (within : IsWithinCapacity s.st
   same_pending = subst (λ (xs : List Change). EachMayBeDone s.store xs) (sym (append-nil cs)) may.pending
 
   -- a row that neither begins nor ends a schedule
-  goes_on : (i : Identity) (n : ℕ) (current : List ℕ) (draft : Change) → missing (next_stage s.extract.stage i false) ≡ false → is_passing i ≡ true → (MayBeDone (overlay_in s) s.extract.draft → MayBeDone (overlay_in s) draft)
+  goes_on : (i : Identity) (n : ℕ) (current : List ℕ) (draft : Change) → is_missing (next_stage s.extract.stage i false) ≡ false → is_passing i ≡ true → (MayBeDone (overlay_in s) s.extract.draft → MayBeDone (overlay_in s) draft)
       → MayGoOn s.store (record { stage = unwrap_or (next_stage s.extract.stage i false) s.extract.stage; taken = n; current = current; draft = draft; changes = cs ++ [] })
   goes_on i n current draft taken passing f = record {
     pending = same_pending;
@@ -115,13 +115,13 @@ module _ (s : Standing) (is : IsMap s.store.map) (within : IsWithinCapacity s.st
   }
 
   -- a BS that has no further rows, and one that has
-  begins : (b : BasicSchedule) (brief : Bool) → brief ≡ is_brief b → s.extract.stage ≡ Between → MayBeDone (overlay_in s) (asked_by b b.change)
-      → MayGoOn s.store (record { stage = unwrap_or (next_stage s.extract.stage IsSchedule brief) s.extract.stage; taken = s.extract.taken + 1; current = s.extract.current; draft = cond brief s.extract.draft (asked_by b b.change); changes = cs ++ cond brief (asked_by b b.change ∷ []) [] })
+  begins : (b : BasicSchedule) (brief : Bool) → brief ≡ is_brief b → s.extract.stage ≡ Between → MayBeDone (overlay_in s) (asked_by b b.action)
+      → MayGoOn s.store (record { stage = unwrap_or (next_stage s.extract.stage IsSchedule brief) s.extract.stage; taken = s.extract.taken + 1; current = s.extract.current; draft = cond brief s.extract.draft (asked_by b b.action); changes = cs ++ cond brief (asked_by b b.action ∷ []) [] })
   begins b true e at h = record {
-    pending = each_push s.store cs (asked_by b b.change) may.pending h;
+    pending = each_push s.store cs (asked_by b b.action) may.pending h;
     reading = λ r. absurd (true≢false (sym (sym (ap (λ x. is_reading (unwrap_or (next_stage x IsSchedule true) x)) at) ∙ r)));
   }
-  begins b false e at h = record { pending = same_pending; reading = λ r. none_more (asked_by b b.change) h }
+  begins b false e at h = record { pending = same_pending; reading = λ r. none_more (asked_by b b.action) h }
 
   -- an LT
   ends : (l : Location) → is_lawful (ended_by l s.extract.draft) ≡ true
@@ -131,23 +131,23 @@ module _ (s : Standing) (is : IsMap s.store.map) (within : IsWithinCapacity s.st
     reading = λ r. absurd (true≢false (sym (sym (ap is_reading next) ∙ r)));
   }
 
-  only_between : (st : Stage) → missing (next_stage st IsSchedule false) ≡ false → st ≡ Between
+  only_between : (st : Stage) → is_missing (next_stage st IsSchedule false) ≡ false → st ≡ Between
   only_between st h = grind (arith, nat_tests)
 
-  ends_reading : (st : Stage) → missing (next_stage st IsTerminus false) ≡ false → is_reading st ≡ true
+  ends_reading : (st : Stage) → is_missing (next_stage st IsTerminus false) ≡ false → is_reading st ≡ true
   ends_reading st h = grind (arith, nat_tests)
 
-  ends_between : (st : Stage) → missing (next_stage st IsTerminus false) ≡ false → unwrap_or (next_stage st IsTerminus false) st ≡ Between
+  ends_between : (st : Stage) → is_missing (next_stage st IsTerminus false) ≡ false → unwrap_or (next_stage st IsTerminus false) st ≡ Between
   ends_between st h = grind (arith, nat_tests)
 
   -- the transaction that a BS asks for is lawful where those that join and the one that is then read are
-  asked_lawful : (b : BasicSchedule) (brief : Bool) → is_lawful (cond brief s.extract.draft (asked_by b b.change)) ≡ true → every_lawful (cs ++ cond brief (asked_by b b.change ∷ []) []) ≡ true → is_lawful (asked_by b b.change) ≡ true
-  asked_lawful b true d h = last_lawful cs (asked_by b b.change) h
+  asked_lawful : (b : BasicSchedule) (brief : Bool) → is_lawful (cond brief s.extract.draft (asked_by b b.action)) ≡ true → every_lawful (cs ++ cond brief (asked_by b b.action ∷ []) []) ≡ true → is_lawful (asked_by b b.action) ≡ true
+  asked_lawful b true d h = last_lawful cs (asked_by b b.action) h
   asked_lawful b false d h = d
 
   -- after a row that is taken what is pending and read may be done
   pub may_after : (c : Content) → is_sound c ≡ true → is_lawful (after s.extract c).draft ≡ true → every_lawful (after s.extract c).changes ≡ true
-      → missing (next_stage s.extract.stage (identity_for c) false) ≡ false → uppermost (content_lines s c) ≡ None → MayGoOn s.store (after s.extract c)
+      → is_missing (next_stage s.extract.stage (identity_for c) false) ≡ false → uppermost (content_lines s c) ≡ None → MayGoOn s.store (after s.extract c)
   may_after (Header h) sound draft lawful taken none = goes_on IsHeader _ _ s.extract.draft taken refl (λ m. m)
   may_after (Schedule b) sound draft lawful taken none = begins b (is_brief b) refl (only_between s.extract.stage taken) (asked_may b (asked_lawful b (is_brief b) draft lawful) none)
   may_after (Operator o) sound draft lawful taken none = goes_on IsExtra _ _ _ taken refl (same_may (overlay_in s) s.extract.draft (λ r. with_operator r o) (operator_key o) draft)

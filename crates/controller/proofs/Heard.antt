@@ -8,7 +8,7 @@ use Rattle.cif.specs.declared.identity.Identity.{Identity}
 use Rattle.cif.specs.declared.refusal.Refusal.TheVariants.{RowLength, BadByte, UnknownIdentity, OutOfPlace}
 use Rattle.cif.specs.declared.refusal.ColumnFault.{ColumnFault}
 use Rattle.cif.specs.declared.refusal.RowFault.{RowFault}
-use Rattle.cif.specs.Refusals.{in_row, TableLine, line, uppermost, missing, then, raised, fault_of}
+use Rattle.cif.specs.Refusals.{in_row, TableLine, line, uppermost, is_missing, then, map_err, fault_of}
 use Rattle.cif.specs.Rows.{identity_in, first_bad, column_or0, whole_in}
 use Rattle.cif.specs.Reading.{letters_in, blanks, content_in, read_in, field_lines, field_lines_in, told_in}
 use Rattle.cif.proofs.Results.{ok_is, err_ok}
@@ -72,16 +72,16 @@ taken_told false s i row = of (content_in i row) (content_told i row)
 module _ (misplaced : Stage → Identity → Bool) (s : Standing) (row : List ℕ) where
   abbrev lines : Bool → Option ℕ → Option Identity → Option Content → List TableLine
   lines long bad id held =
-      (line RowLength 0 (not long) ∷ line BadByte (column_or0 bad) (not (missing bad)) ∷ line UnknownIdentity 1 (missing id) ∷ [])
+      (line RowLength 0 (not long) ∷ line BadByte (column_or0 bad) (not (is_missing bad)) ∷ line UnknownIdentity 1 (is_missing id) ∷ [])
       ++ (line OutOfPlace 1 (misfits misplaced s.extract.stage id) ∷ (field_lines_in id row ++ (held_lines s held ++ [])))
 
   abbrev read_of : Result Identity ColumnFault → Result Content RowFault
-  read_of whole = then (raised (in_row blanks) whole) (λ i. raised (in_row (letters_in row)) (content_in i row))
+  read_of whole = then (map_err (in_row blanks) whole) (λ i. map_err (in_row (letters_in row)) (content_in i row))
 
   abbrev heard_of : Result Identity ColumnFault → Result Progress RowFault
-  heard_of whole = then (raised (in_row blanks) whole) (λ i. raised (in_row (letters_in row)) (verdict_unless (misplaced s.extract.stage i) s i row))
+  heard_of whole = then (map_err (in_row blanks) whole) (λ i. map_err (in_row (letters_in row)) (verdict_unless (misplaced s.extract.stage i) s i row))
 
-  value_raised : {X E F : Type 0} (f : E → F) (r : Result X E) → value_in (raised f r) ≡ value_in r
+  value_raised : {X E F : Type 0} (f : E → F) (r : Result X E) → value_in (map_err f r) ≡ value_in r
   value_raised f (Ok x) = refl
   value_raised f (Err e) = refl
 
@@ -101,15 +101,15 @@ module _ (misplaced : Stage → Identity → Bool) (s : Standing) (row : List �
   pub heard_after : (p : Progress) → bytes_verdict misplaced s row ≡ Ok p → p ≡ after_row s.extract row
   heard_after p h = at (whole_in row) h
     where
-      judge : (c : Content) (o : Option ColumnFault) → raised (in_row (letters_in row)) (elim o [ Some f ↦ Err f | None ↦ Ok (after s.extract c) ]) ≡ Ok p → p ≡ after s.extract c
+      judge : (c : Content) (o : Option ColumnFault) → map_err (in_row (letters_in row)) (elim o [ Some f ↦ Err f | None ↦ Ok (after s.extract c) ]) ≡ Ok p → p ≡ after s.extract c
       judge c (Some f) h = err_ok _ p _ refl h
       judge c None h = ok_is _ p (after s.extract c) h refl
 
-      content : (r : Result Content ColumnFault) → raised (in_row (letters_in row)) (then r (λ c. verdict_on s c)) ≡ Ok p → p ≡ elim (raised (in_row (letters_in row)) r) [ Ok c ↦ after s.extract c | Err e ↦ s.extract ]
+      content : (r : Result Content ColumnFault) → map_err (in_row (letters_in row)) (then r (λ c. verdict_on s c)) ≡ Ok p → p ≡ elim (map_err (in_row (letters_in row)) r) [ Ok c ↦ after s.extract c | Err e ↦ s.extract ]
       content (Err e) h = err_ok _ p _ refl h
       content (Ok c) h = judge c (uppermost (content_lines s c)) h
 
-      place : (b : Bool) (i : Identity) → raised (in_row (letters_in row)) (verdict_unless b s i row) ≡ Ok p → p ≡ elim (raised (in_row (letters_in row)) (content_in i row)) [ Ok c ↦ after s.extract c | Err e ↦ s.extract ]
+      place : (b : Bool) (i : Identity) → map_err (in_row (letters_in row)) (verdict_unless b s i row) ≡ Ok p → p ≡ elim (map_err (in_row (letters_in row)) (content_in i row)) [ Ok c ↦ after s.extract c | Err e ↦ s.extract ]
       place true i h = err_ok _ p _ refl h
       place false i h = content (content_in i row) h
 
@@ -118,24 +118,24 @@ module _ (misplaced : Stage → Identity → Bool) (s : Standing) (row : List �
       at (Ok i) h = place (misplaced s.extract.stage i) i h
 
 -- what a fault with its place beside it says
-pub beside_ok : {X E P : Type 0} (r : Result X E) (place : P) (x : X) → raised {F = E × P} (λ e. (e, place)) r ≡ Ok x → r ≡ Ok x
-beside_ok (Ok y) place x h = let q : y ≡ x = cc in ap Ok q
-beside_ok (Err e) place x h = let z : ◌≡◌ {A = ℕ} 0 1 = cc in absurd (let w : ⊥ = omega arith in w)
+pub with_place_ok : {X E P : Type 0} (r : Result X E) (place : P) (x : X) → map_err {F = E × P} (λ e. (e, place)) r ≡ Ok x → r ≡ Ok x
+with_place_ok (Ok y) place x h = let q : y ≡ x = cc in ap Ok q
+with_place_ok (Err e) place x h = let z : ◌≡◌ {A = ℕ} 0 1 = cc in absurd (let w : ⊥ = omega arith in w)
 
-pub beside_err : {X E P : Type 0} (r : Result X E) (place : P) (x : E × P) → raised {F = E × P} (λ e. (e, place)) r ≡ Err x → (r ≡ Err x.0) × (place ≡ x.1)
-beside_err (Ok y) place x h = let z : ◌≡◌ {A = ℕ} 0 1 = cc in absurd (let w : ⊥ = omega arith in w)
-beside_err {X} {E} {P} (Err e) place x h = let q : ◌≡◌ {A = E × P} (e, place) x = cc in (ap (λ (v : E × P). Err v.0) q, ap (λ (v : E × P). v.1) q)
+pub with_place_err : {X E P : Type 0} (r : Result X E) (place : P) (x : E × P) → map_err {F = E × P} (λ e. (e, place)) r ≡ Err x → (r ≡ Err x.0) × (place ≡ x.1)
+with_place_err (Ok y) place x h = let z : ◌≡◌ {A = ℕ} 0 1 = cc in absurd (let w : ⊥ = omega arith in w)
+with_place_err {X} {E} {P} (Err e) place x h = let q : ◌≡◌ {A = E × P} (e, place) x = cc in (ap (λ (v : E × P). Err v.0) q, ap (λ (v : E × P). v.1) q)
 
 -- a row that was found whole is heard by its identity
 module _ (misplaced : Stage → Identity → Bool) (s : Standing) (bytes held : List ℕ) (i : Identity) (p : Progress) (t : Result (Unit {0}) ColumnFault) (same : held ≡ bytes) (whole : whole_in bytes ≡ Ok i) (told : GoesBy p (verdict_unless (misplaced s.extract.stage i) s i held) t) where
-  heard_is : bytes_verdict misplaced s bytes ≡ raised (in_row (letters_in bytes)) (verdict_unless (misplaced s.extract.stage i) s i held)
-  heard_is = ap (λ w. then (raised (in_row blanks) w) (λ j. raised (in_row (letters_in bytes)) (verdict_unless (misplaced s.extract.stage j) s j bytes))) whole ∙ ap (λ b. raised (in_row (letters_in bytes)) (verdict_unless (misplaced s.extract.stage i) s i b)) (sym same)
+  heard_is : bytes_verdict misplaced s bytes ≡ map_err (in_row (letters_in bytes)) (verdict_unless (misplaced s.extract.stage i) s i held)
+  heard_is = ap (λ w. then (map_err (in_row blanks) w) (λ j. map_err (in_row (letters_in bytes)) (verdict_unless (misplaced s.extract.stage j) s j bytes))) whole ∙ ap (λ b. map_err (in_row (letters_in bytes)) (verdict_unless (misplaced s.extract.stage i) s i b)) (sym same)
 
   pub heard_ok : (u : Unit {0}) → t ≡ Ok u → bytes_verdict misplaced s bytes ≡ Ok p
-  heard_ok u e = heard_is ∙ ap (raised (in_row (letters_in bytes))) (subst (λ (r : Result (Unit {0}) ColumnFault). GoesBy p (verdict_unless (misplaced s.extract.stage i) s i held) r) e told)
+  heard_ok u e = heard_is ∙ ap (map_err (in_row (letters_in bytes))) (subst (λ (r : Result (Unit {0}) ColumnFault). GoesBy p (verdict_unless (misplaced s.extract.stage i) s i held) r) e told)
 
   pub heard_err : (f : ColumnFault) → t ≡ Err f → bytes_verdict misplaced s bytes ≡ Err (in_row (letters_in bytes) f)
-  heard_err f e = heard_is ∙ ap (raised (in_row (letters_in bytes))) (subst (λ (r : Result (Unit {0}) ColumnFault). GoesBy p (verdict_unless (misplaced s.extract.stage i) s i held) r) e told)
+  heard_err f e = heard_is ∙ ap (map_err (in_row (letters_in bytes))) (subst (λ (r : Result (Unit {0}) ColumnFault). GoesBy p (verdict_unless (misplaced s.extract.stage i) s i held) r) e told)
 
 -- a fault that is the rule's was told
 pub told_err : {X E : Type 0} (after : X) (rule : Result X E) (r : Result (Unit {0}) E) (e : E) → r ≡ Err e → rule ≡ Err e → GoesBy after rule r

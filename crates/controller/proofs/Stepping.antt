@@ -2,13 +2,13 @@
 use Rattle.std.proofs.Common.{◌≡◌, true, false, unwrap_or, arith}
 use Rattle.std.proofs.lemmas.Bool.Decides.{nat_tests}
 use Rattle.cif.specs.declared.identity.Identity.{Identity}
-use Rattle.cif.specs.Refusals.{missing}
+use Rattle.cif.specs.Refusals.{is_missing}
 use Rattle.extract.specs.declared.stage.Stage.{Stage}
 use Rattle.extract.specs.Stages.{next_stage, is_reading}
 use Rattle.controller.specs.Laws.{is_passing, ReadFromBsToLt}
 
 -- a row that neither begins nor ends a schedule leaves it as it is
-pub reads_on : (st : Stage) (i : Identity) → missing (next_stage st i false) ≡ false → is_passing i ≡ true → is_reading (unwrap_or (next_stage st i false) st) ≡ is_reading st
+pub reads_on : (st : Stage) (i : Identity) → is_missing (next_stage st i false) ≡ false → is_passing i ≡ true → is_reading (unwrap_or (next_stage st i false) st) ≡ is_reading st
 reads_on st i p q = grind (arith, nat_tests)
 
 pub from_bs_to_lt : ReadFromBsToLt

@@ -6,7 +6,7 @@ use Rattle.cif.specs.declared.identity.Identity.{Identity}
 use Rattle.cif.specs.declared.refusal.Refusal.TheVariants.{OutOfPlace}
 use Rattle.cif.specs.declared.refusal.ColumnFault.{ColumnFault}
 use Rattle.cif.specs.declared.refusal.RowFault.{RowFault}
-use Rattle.cif.specs.Refusals.{TableLine, line, uppermost, then, raised, in_row}
+use Rattle.cif.specs.Refusals.{TableLine, line, uppermost, then, map_err, in_row}
 use Rattle.cif.specs.Rows.{row_lines, identity_in, whole_in}
 use Rattle.cif.specs.Reading.{read_in, field_lines_in, told_in, letters_in, blanks}
 use Rattle.board.specs.Turning.{turn_lines, slot_lines}
@@ -100,5 +100,5 @@ refusal_of call s slots = option_map (told_with call s) (uppermost (refusals cal
 -- the same of a row as it is heard step by step: is it a row, is it in place, are its fields in form, does no line of the table hold
 abbrev pub bytes_verdict : (Stage → Identity → Bool) → Standing → List ℕ → Result Progress RowFault
 bytes_verdict misplaced s row =
-    then (raised (in_row blanks) (whole_in row)) (λ i.
-    raised (in_row (letters_in row)) (verdict_unless (misplaced s.extract.stage i) s i row))
+    then (map_err (in_row blanks) (whole_in row)) (λ i.
+    map_err (in_row (letters_in row)) (verdict_unless (misplaced s.extract.stage i) s i row))

@@ -6,7 +6,7 @@ ghost use Rattle.extract.specs.Stages.{has_room};
 use crate::fault::ExtractFault;
 use crate::telling::{numbered, without_row};
 use board::display::Board;
-use cif::refusal::{ColumnFault, Refusal, RowFault, beside};
+use cif::refusal::{ColumnFault, Refusal, RowFault, with_place};
 use cif::row::Row;
 use extract::extract::Extract;
 use extract::stage::Stage;
@@ -114,9 +114,9 @@ impl<S: Store> Controller<S> {
         ensures unchanged { OnErr result (self.new ≡ self.old) }
         ensures rest { SameButExtract self.old self.new }
     {
-        let row = beside(Row::check(bytes), *b"  ")?;
+        let row = with_place(Row::check(bytes), *b"  ")?;
         let letters = row.letters();
-        beside(self.extract.take(&mut self.overlay, &row), letters)?;
+        with_place(self.extract.take(&mut self.overlay, &row), letters)?;
         Ok(())
     }
 
@@ -127,9 +127,9 @@ impl<S: Store> Controller<S> {
         ensures unchanged { OnErr result (self.new ≡ self.old) }
         ensures rest { SameButExtract self.old self.new }
     {
-        let row = beside(Row::check(bytes), *b"  ")?;
+        let row = with_place(Row::check(bytes), *b"  ")?;
         let letters = row.letters();
-        beside(self.extract.open(&row, &self.reference), letters)?;
+        with_place(self.extract.open(&row, &self.reference), letters)?;
         Ok(())
     }
 

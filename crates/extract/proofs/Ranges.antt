@@ -6,19 +6,19 @@ use Rattle.std.proofs.lemmas.Bool.Decides.{nat_tests}
 use Rattle.maps.proofs.Maps.{some_none, some_is}
 use Rattle.calendar.specs.Calendar.{exists, day_number, dated}
 use Rattle.forms.specs.declared.letters.Stp.{Stp}
-use Rattle.forms.specs.declared.letters.Transaction.{Transaction}
-use Rattle.forms.specs.declared.letters.Transaction.TheVariants.{New as AsNew, Revise as AsRevised, Delete as AsDeleted}
+use Rattle.forms.specs.declared.letters.TransactionType.{TransactionType}
+use Rattle.forms.specs.declared.letters.TransactionType.TheVariants.{New as AsNew, Revise as AsRevised, Delete as AsDeleted}
 use Rattle.forms.specs.Bytes.{columns, is_digit, is_letter, and_then}
 use Rattle.forms.specs.Forms.{number_after, number_in, uid_in, date_in, years_on}
 use Rattle.forms.proofs.Steps.{digit_small}
 use Rattle.cif.specs.declared.content.BasicSchedule.{BasicSchedule}
-use Rattle.cif.specs.declared.content.Change.{Change}
-use Rattle.cif.specs.declared.content.Change.TheVariants.{New, Revise, Delete}
+use Rattle.cif.specs.declared.content.Action.{Action}
+use Rattle.cif.specs.declared.content.Action.TheVariants.{New, Revise, Delete}
 use Rattle.cif.specs.declared.content.Running.{Running}
 use Rattle.cif.specs.declared.refusal.Refusal.TheVariants.{EndsBeforeStart}
 use Rattle.cif.specs.declared.refusal.ColumnFault.{ColumnFault}
-use Rattle.cif.specs.Refusals.{fault_at, formed, then}
-use Rattle.cif.specs.Fields.{transaction_of, uid_of, from_of, to_of, days_of, train_of, stp_of, running_in, change_in, runs_on, schedule_in}
+use Rattle.cif.specs.Refusals.{fault_at, field_at, then}
+use Rattle.cif.specs.Fields.{transaction_of, uid_of, from_of, to_of, days_of, train_of, stp_of, running_in, action_in, runs_on, schedule_in}
 use Rattle.cif.proofs.Results.{ok_is, err_ok}
 use Rattle.extract.specs.Standings.{range_in}
 
@@ -90,36 +90,36 @@ date_below cs x h =
 running_below : (row : List ℕ) (r : Running) → running_in row ≡ Ok r → r.to.0 ≤ 36524
 running_below row r h = of (to_of row) (days_of row) (train_of row) (date_below (columns 16 21 row)) h
   where
-    of : (t : Option (ℕ × ℕ)) (d : Option (List Bool)) (i : Option (List ℕ)) → ((x : ℕ × ℕ) → t ≡ Some x → x.0 ≤ 36524) → then (formed 16 t) (λ t. then (formed 22 d) (λ d. then (formed 33 i) (λ i. Ok (record { to = t; days = d; train = i })))) ≡ Ok r → r.to.0 ≤ 36524
+    of : (t : Option (ℕ × ℕ)) (d : Option (List Bool)) (i : Option (List ℕ)) → ((x : ℕ × ℕ) → t ≡ Some x → x.0 ≤ 36524) → then (field_at 16 t) (λ t. then (field_at 22 d) (λ d. then (field_at 33 i) (λ i. Ok (record { to = t; days = d; train = i })))) ≡ Ok r → r.to.0 ≤ 36524
     of None d i below h = absurd (err_ok _ r _ refl h)
     of (Some t) None i below h = absurd (err_ok _ r _ refl h)
     of (Some t) (Some d) None below h = absurd (err_ok _ r _ refl h)
     of (Some t) (Some d) (Some i) below h = subst (λ (x : Running). x.to.0 ≤ 36524) (ok_is _ _ r refl h) (below t refl)
 
 -- the last day of a change that has one
-abbrev end_day : Change → ℕ
+abbrev end_day : Action → ℕ
 end_day (New r) = r.to.0
 end_day (Revise r) = r.to.0
 end_day Delete = 0
 
 -- a change is in range where the train runs on
-range_kept : (u : ℕ) (f : ℕ × ℕ) (s : Stp) (c : Change) → u < 2600000 → end_day c ≤ 36524 → runs_on f c ≡ true → range_in (record { uid = u; from = f; stp = s; change = c }) c ≡ true
+range_kept : (u : ℕ) (f : ℕ × ℕ) (s : Stp) (c : Action) → u < 2600000 → end_day c ≤ 36524 → runs_on f c ≡ true → range_in (record { uid = u; from = f; stp = s; action = c }) c ≡ true
 range_kept u f s (New r) l a on = and_from (ltb u 2600000) _ (lt-ltb u 2600000 l) (and_from (leb f.0 r.to.0) _ on (le-leb r.to.0 36524 a))
 range_kept u f s (Revise r) l a on = and_from (ltb u 2600000) _ (lt-ltb u 2600000 l) (and_from (leb f.0 r.to.0) _ on (le-leb r.to.0 36524 a))
 range_kept u f s Delete l a on = refl
 
-pub schedule_range : (row : List ℕ) (b : BasicSchedule) → schedule_in row ≡ Ok b → range_in b b.change ≡ true
+pub schedule_range : (row : List ℕ) (b : BasicSchedule) → schedule_in row ≡ Ok b → range_in b b.action ≡ true
 schedule_range row b h = of (transaction_of row) (uid_of row) (from_of row) (running_in row) (stp_of row) (uid_below (columns 4 9 row)) (running_below row) h
   where
-    ended : (u : ℕ) (f : ℕ × ℕ) (s : Stp) (c : Change) → u < 2600000 → end_day c ≤ 36524 → cond (runs_on f c) (Ok (record { uid = u; from = f; stp = s; change = c })) (Err (fault_at EndsBeforeStart 16)) ≡ Ok b → range_in b b.change ≡ true
+    ended : (u : ℕ) (f : ℕ × ℕ) (s : Stp) (c : Action) → u < 2600000 → end_day c ≤ 36524 → cond (runs_on f c) (Ok (record { uid = u; from = f; stp = s; action = c })) (Err (fault_at EndsBeforeStart 16)) ≡ Ok b → range_in b b.action ≡ true
     ended u f s c l p h =
         ⊎_elim
-        (λ on. subst (λ (x : BasicSchedule). range_in x x.change ≡ true) (ok_is _ _ b refl (sym (cond-true _ _ _ on) ∙ h)) (range_kept u f s c l p on))
+        (λ on. subst (λ (x : BasicSchedule). range_in x x.action ≡ true) (ok_is _ _ b refl (sym (cond-true _ _ _ on) ∙ h)) (range_kept u f s c l p on))
         (λ off. absurd (err_ok _ b _ refl (sym (cond-false _ _ _ off) ∙ h)))
         (cases_Bool (runs_on f c))
 
-    of : (t : Option Transaction) (u : Option ℕ) (f : Option (ℕ × ℕ)) (run : Result Running ColumnFault) (s : Option Stp) → ((x : ℕ) → u ≡ Some x → x < 2600000) → ((r : Running) → run ≡ Ok r → r.to.0 ≤ 36524)
-        → then (formed 3 t) (λ t. then (formed 4 u) (λ u. then (formed 10 f) (λ f. then (change_in t run) (λ c. then (formed 80 s) (λ s. cond (runs_on f c) (Ok (record { uid = u; from = f; stp = s; change = c })) (Err (fault_at EndsBeforeStart 16))))))) ≡ Ok b → range_in b b.change ≡ true
+    of : (t : Option TransactionType) (u : Option ℕ) (f : Option (ℕ × ℕ)) (run : Result Running ColumnFault) (s : Option Stp) → ((x : ℕ) → u ≡ Some x → x < 2600000) → ((r : Running) → run ≡ Ok r → r.to.0 ≤ 36524)
+        → then (field_at 3 t) (λ t. then (field_at 4 u) (λ u. then (field_at 10 f) (λ f. then (action_in t run) (λ c. then (field_at 80 s) (λ s. cond (runs_on f c) (Ok (record { uid = u; from = f; stp = s; action = c })) (Err (fault_at EndsBeforeStart 16))))))) ≡ Ok b → range_in b b.action ≡ true
     of None u f run s p q h = absurd (err_ok _ b _ refl h)
     of (Some t) None f run s p q h = absurd (err_ok _ b _ refl h)
     of (Some t) (Some u) None run s p q h = absurd (err_ok _ b _ refl h)

@@ -11,7 +11,7 @@ use Rattle.cif.specs.declared.refusal.ColumnFault.{ColumnFault}
 use Rattle.cif.specs.Refusals.{TableLine, line, uppermost, fault_at, then}
 use Rattle.cif.specs.Reading.{content_in}
 use Rattle.schedule.specs.declared.transaction.Change.{Change}
-use Rattle.schedule.specs.Transactions.{plain_of}
+use Rattle.schedule.specs.Transactions.{change_of}
 use Rattle.schedule.specs.Building.{with_operator, with_call, bringing, bringing_lines}
 use Rattle.extract.specs.declared.stage.Stage.{Stage}
 use Rattle.extract.specs.declared.stage.Stage.TheVariants.{Between, Begun, Extra, Running}
@@ -95,18 +95,18 @@ module _ (e : Extract) (s : Standing) (p : Progress) (r : Result (Unit {0}) Colu
   abbrev old : Progress
   old = progress_with e s.extract.changes
 
-  pub passed : (i : Identity) (next : Stage) → Passes i e.stage next → GoesBy p (value_unless (room_lines e.taken) (next_progress old next (plain_of e.draft) [])) r → GoesBy p (verdict_on s (Unread i)) r
+  pub passed : (i : Identity) (next : Stage) → Passes i e.stage next → GoesBy p (value_unless (room_lines e.taken) (next_progress old next (change_of e.draft) [])) r → GoesBy p (verdict_on s (Unread i)) r
   passed i next passes h =
       told_by p _ _ r (unread_taken s i next (ap (λ (q : Progress). next_stage q.stage i false) on ∙ passes.0) passes.1 ∙ ap (λ (q : Progress). value_unless (room_lines q.taken) (next_progress q next q.draft [])) on) h
 
-  pub named : (o : List ℕ) → e.stage ≡ Begun → GoesBy p (value_unless (room_lines e.taken) (next_progress old Extra (bringing (λ r. with_operator r o) (plain_of e.draft)) [])) r → GoesBy p (verdict_on s (Operator o)) r
+  pub named : (o : List ℕ) → e.stage ≡ Begun → GoesBy p (value_unless (room_lines e.taken) (next_progress old Extra (bringing (λ r. with_operator r o) (change_of e.draft)) [])) r → GoesBy p (verdict_on s (Operator o)) r
   named o at h =
       told_by p _ _ r (operator_taken s o (ap (λ (q : Progress). q.stage) on ∙ at) ∙ ap (λ (q : Progress). value_unless (room_lines q.taken) (next_progress q Extra (bringing (λ r. with_operator r o) q.draft) [])) on) h
 
   abbrev Called : Location → Type 0
-  Called l = GoesBy p (value_unless (call_row_lines (plain_of e.draft) l e.taken) (next_progress old Running (bringing (λ r. with_call r l) (plain_of e.draft)) [])) r
+  Called l = GoesBy p (value_unless (call_row_lines (change_of e.draft) l e.taken) (next_progress old Running (bringing (λ r. with_call r l) (change_of e.draft)) [])) r
 
-  call_on : (l : Location) → value_unless (call_row_lines s.extract.draft l s.extract.taken) (next_progress s.extract Running (bringing (λ r. with_call r l) s.extract.draft) []) ≡ value_unless (call_row_lines (plain_of e.draft) l e.taken) (next_progress old Running (bringing (λ r. with_call r l) (plain_of e.draft)) [])
+  call_on : (l : Location) → value_unless (call_row_lines s.extract.draft l s.extract.taken) (next_progress s.extract Running (bringing (λ r. with_call r l) s.extract.draft) []) ≡ value_unless (call_row_lines (change_of e.draft) l e.taken) (next_progress old Running (bringing (λ r. with_call r l) (change_of e.draft)) [])
   call_on l = ap (λ (q : Progress). value_unless (call_row_lines q.draft l q.taken) (next_progress q Running (bringing (λ r. with_call r l) q.draft) [])) on
 
   pub begun : (l : Location) → next_stage e.stage IsOrigin false ≡ Some Running → Called l → GoesBy p (verdict_on s (Origin l)) r
@@ -115,7 +115,7 @@ module _ (e : Extract) (s : Standing) (p : Progress) (r : Result (Unit {0}) Colu
   pub called : (l : Location) → next_stage e.stage IsIntermediate false ≡ Some Running → Called l → GoesBy p (verdict_on s (Intermediate l)) r
   called l step h = told_by p _ _ r (intermediate_taken s l (ap (λ (q : Progress). next_stage q.stage IsIntermediate false) on ∙ step) ∙ call_on l) h
 
-  pub ended : (l : Location) → e.stage ≡ Running → GoesBy p (value_unless (call_row_lines (plain_of e.draft) l e.taken) (next_progress old Between (plain_of e.draft) (ended_by l (plain_of e.draft) ∷ []))) r → GoesBy p (verdict_on s (Terminus l)) r
+  pub ended : (l : Location) → e.stage ≡ Running → GoesBy p (value_unless (call_row_lines (change_of e.draft) l e.taken) (next_progress old Between (change_of e.draft) (ended_by l (change_of e.draft) ∷ []))) r → GoesBy p (verdict_on s (Terminus l)) r
   ended l at h =
       told_by p _ _ r (terminus_taken s l (ap (λ (q : Progress). next_stage q.stage IsTerminus false) on ∙ ap (λ x. next_stage x IsTerminus false) at)
       ∙ ap (λ (q : Progress). value_unless (call_row_lines q.draft l q.taken) (next_progress q Between q.draft (ended_by l q.draft ∷ []))) on) h

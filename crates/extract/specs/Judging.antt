@@ -6,8 +6,8 @@ use Rattle.forms.specs.declared.letters.Coverage.{Coverage}
 use Rattle.forms.specs.declared.letters.Coverage.TheVariants.{Full, Update}
 use Rattle.cif.specs.declared.content.Header.{Header as Heading}
 use Rattle.cif.specs.declared.content.BasicSchedule.{BasicSchedule}
-use Rattle.cif.specs.declared.content.Change.{Change as Asked}
-use Rattle.cif.specs.declared.content.Change.TheVariants.{New as AsksNew}
+use Rattle.cif.specs.declared.content.Action.{Action}
+use Rattle.cif.specs.declared.content.Action.TheVariants.{New as AsksNew}
 use Rattle.cif.specs.declared.content.Location.{Location}
 use Rattle.cif.specs.declared.content.Content.{Content}
 use Rattle.cif.specs.Contents.{header_of, basic_schedule_of, location_of}
@@ -15,7 +15,7 @@ use Rattle.cif.specs.declared.identity.Identity.{Identity}
 use Rattle.cif.specs.declared.identity.Identity.TheVariants.{Trailer, Header as IsHeader}
 use Rattle.cif.specs.declared.refusal.Refusal.TheVariants.{OutOfPlace, ReferenceMismatch, KeyPresent, KeyAbsent, TooManyRows, StoreFull}
 use Rattle.cif.specs.declared.refusal.ColumnFault.{ColumnFault}
-use Rattle.cif.specs.Refusals.{TableLine, line, uppermost, missing, fault_at, then}
+use Rattle.cif.specs.Refusals.{TableLine, line, uppermost, is_missing, fault_at, then}
 use Rattle.cif.specs.Reading.{content_in}
 use Rattle.schedule.specs.declared.transaction.Change.{Change}
 use Rattle.schedule.specs.Records.{seven_blanks}
@@ -57,17 +57,17 @@ abbrev pub references_fail : Standing → Content → Bool
 references_fail s c = option_map_or (mismatches s.reference) (header_of c) false
 
 -- a BS asks for a new schedule, N
-abbrev pub asks_new : Asked → Bool
+abbrev pub asks_new : Action → Bool
 asks_new (AsksNew d) = true
 asks_new _ = false
 
 -- a BS with N that passes a test
 abbrev pub is_new_with : (BasicSchedule → Bool) → Content → Bool
-is_new_with test c = option_map_or (λ b. asks_new b.change && test b) (basic_schedule_of c) false
+is_new_with test c = option_map_or (λ b. asks_new b.action && test b) (basic_schedule_of c) false
 
 -- a BS with R or D that passes a test
 abbrev pub is_old_with : (BasicSchedule → Bool) → Content → Bool
-is_old_with test c = option_map_or (λ b. not (asks_new b.change) && test b) (basic_schedule_of c) false
+is_old_with test c = option_map_or (λ b. not (asks_new b.action) && test b) (basic_schedule_of c) false
 
 -- the key of a BS is in the overlay
 abbrev pub is_there : Standing → BasicSchedule → Bool
@@ -127,7 +127,7 @@ verdict_unless misplaced s i row = cond misplaced (Err (fault_at OutOfPlace 1)) 
 
 -- to the call row a row is out of place where the stage does not take it; an HD is always out of place there
 abbrev pub is_misplaced : Stage → Identity → Bool
-is_misplaced stage i = is_identity i IsHeader || missing (next_stage stage i false)
+is_misplaced stage i = is_identity i IsHeader || is_missing (next_stage stage i false)
 
 -- what the call row makes of a row of an identity
 abbrev pub row_verdict : Standing → Identity → List ℕ → Result Progress ColumnFault

@@ -2,8 +2,8 @@
 use Rattle.std.specs.Prelude.{ℕ, ◌+◌, Bool, true, false, cond, List, [], ◌∷◌, ◌++◌, Ok, Err, fold}
 use Rattle.std.specs.Option.{unwrap_or, option_map_or}
 use Rattle.cif.specs.declared.content.BasicSchedule.{BasicSchedule}
-use Rattle.cif.specs.declared.content.Change.{Change as Asked}
-use Rattle.cif.specs.declared.content.Change.TheVariants.{New as AsksNew, Revise as AsksRevise, Delete as AsksDelete}
+use Rattle.cif.specs.declared.content.Action.{Action}
+use Rattle.cif.specs.declared.content.Action.TheVariants.{New as AsksNew, Revise as AsksRevise, Delete as AsksDelete}
 use Rattle.cif.specs.declared.content.Running.{Running as Days}
 use Rattle.cif.specs.declared.content.Location.{Location}
 use Rattle.cif.specs.declared.content.Content.{Content}
@@ -44,19 +44,19 @@ abbrev pub begun_by : BasicSchedule → Days → Record
 begun_by b d = begun_with (key_in b) d.to.0 d.days d.train
 
 -- the transaction that a BS row asks for
-abbrev pub asked_by : BasicSchedule → Asked → Change
+abbrev pub asked_by : BasicSchedule → Action → Change
 asked_by b (AsksNew d) = New (begun_by b d)
 asked_by b (AsksRevise d) = Revise (begun_by b d)
 asked_by b AsksDelete = Delete (key_in b)
 
 -- whether a BS row asks for a deletion
-abbrev pub is_deletion : Asked → Bool
+abbrev pub is_deletion : Action → Bool
 is_deletion AsksDelete = true
 is_deletion _ = false
 
 -- a BS with D or letter C has no further rows
 abbrev pub is_brief : BasicSchedule → Bool
-is_brief b = cond (is_deletion b.change) true (is_cancellation b.stp)
+is_brief b = cond (is_deletion b.action) true (is_cancellation b.stp)
 
 -- whether a row is such a BS
 abbrev pub brief_in : Content → Bool
@@ -78,7 +78,7 @@ current_after p c = option_map_or (λ h. h.current) (header_of c) p.current
 
 -- the transaction that is being read, after a row: a BS begins it, a BX names the operator, LO and LI may add a call
 abbrev pub draft_after : Progress → Content → Change
-draft_after p (Schedule b) = cond (is_brief b) p.draft (asked_by b b.change)
+draft_after p (Schedule b) = cond (is_brief b) p.draft (asked_by b b.action)
 draft_after p (Operator o) = bringing (λ r. with_operator r o) p.draft
 draft_after p (Origin l) = bringing (λ r. with_call r l) p.draft
 draft_after p (Intermediate l) = bringing (λ r. with_call r l) p.draft
@@ -90,7 +90,7 @@ ended_by l draft = bringing (λ r. with_destination r l.tiploc) (bringing (λ r.
 
 -- the transaction that joins at a row, if any: at its BS with D or letter C, otherwise at its LT
 abbrev pub joining_at : Progress → Content → List Change
-joining_at p (Schedule b) = cond (is_brief b) (asked_by b b.change ∷ []) []
+joining_at p (Schedule b) = cond (is_brief b) (asked_by b b.action ∷ []) []
 joining_at p (Terminus l) = ended_by l p.draft ∷ []
 joining_at p _ = []
 

@@ -1,7 +1,7 @@
 -- The stages of an extract: which rows each takes, and the stage after.
 use Rattle.std.specs.Prelude.{ℕ, Bool, true, false, cond, ◌&&◌, List, [], ◌∷◌, Some, None, Option, ◌==◌, nat_le, nat_lt}
 use Rattle.cif.specs.declared.identity.Identity.{Identity}
-use Rattle.cif.specs.declared.identity.Identity.TheVariants.{Header, BasicSchedule, BasicExtra, Origin, Intermediate, Terminus, ChangeEnRoute, LocationInsert, LocationAmend, LocationDelete, Association, Trailer}
+use Rattle.cif.specs.declared.identity.Identity.TheVariants.{Header, BasicSchedule, BasicExtra, Origin, Intermediate, Terminus, ChangeEnRoute, TiplocInsert, TiplocAmend, TiplocDelete, Association, Trailer}
 use Rattle.extract.specs.declared.stage.Stage.{Stage}
 use Rattle.extract.specs.declared.stage.Stage.TheVariants.{Idle, Between, Begun, Extra, Running, Changed, Complete}
 
@@ -24,9 +24,9 @@ identity_number Origin = 3
 identity_number Intermediate = 4
 identity_number Terminus = 5
 identity_number ChangeEnRoute = 6
-identity_number LocationInsert = 7
-identity_number LocationAmend = 8
-identity_number LocationDelete = 9
+identity_number TiplocInsert = 7
+identity_number TiplocAmend = 8
+identity_number TiplocDelete = 9
 identity_number Association = 10
 identity_number Trailer = 11
 
@@ -47,9 +47,9 @@ abbrev pub steps : Stage → List Step
 steps after_schedule =
     (Idle, Header, Between)
     ∷ (Between, BasicSchedule, after_schedule)
-    ∷ (Between, LocationInsert, Between)
-    ∷ (Between, LocationAmend, Between)
-    ∷ (Between, LocationDelete, Between)
+    ∷ (Between, TiplocInsert, Between)
+    ∷ (Between, TiplocAmend, Between)
+    ∷ (Between, TiplocDelete, Between)
     ∷ (Between, Association, Between)
     ∷ (Between, Trailer, Complete)
     ∷ (Begun, BasicExtra, Extra)

@@ -1,13 +1,13 @@
 -- How far an open extract is read with what is pending over a store, and what a row is judged by.
 use Rattle.std.specs.Prelude.{◌≡◌, ℕ, Bool, true, false, List, Some}
 use Rattle.cif.specs.declared.content.BasicSchedule.{BasicSchedule}
-use Rattle.cif.specs.declared.content.Change.{Change as Asked}
-use Rattle.cif.specs.declared.content.Change.TheVariants.{New as AsksNew, Revise as AsksRevise, Delete as AsksDelete}
+use Rattle.cif.specs.declared.content.Action.{Action}
+use Rattle.cif.specs.declared.content.Action.TheVariants.{New as AsksNew, Revise as AsksRevise, Delete as AsksDelete}
 use Rattle.schedule.specs.declared.transaction.Change.{Change}
 use Rattle.cif.specs.declared.identity.Identity.{Identity}
 use Rattle.cif.specs.declared.identity.Identity.TheVariants.{Trailer}
 use Rattle.schedule.specs.Records.{in_range}
-use Rattle.schedule.specs.Transactions.{plain_of}
+use Rattle.schedule.specs.Transactions.{change_of}
 use Rattle.timetable.specs.Timetables.{Meaning}
 use Rattle.overlay.specs.declared.overlay.Overlay.{Overlay}
 use Rattle.overlay.specs.Overlays.{pending_in}
@@ -19,7 +19,7 @@ use Rattle.extract.specs.Judging.{Standing}
 
 -- how far the extract is read, with what is pending
 abbrev pub progress_with : Extract → List Change → Progress
-progress_with e changes = record { stage = e.stage; taken = e.taken; current = e.current; draft = plain_of e.draft; changes = changes }
+progress_with e changes = record { stage = e.stage; taken = e.taken; current = e.current; draft = change_of e.draft; changes = changes }
 
 -- what a row is judged by, for what a store means and what is pending
 abbrev pub standing_at : Meaning → Extract → List Change → List ℕ → Standing
@@ -30,7 +30,7 @@ abbrev pub standing : {S : Type 0} → (S → Meaning) → Extract → Overlay S
 standing meaning e o reference = standing_at (meaning o.store) e (pending_in o.pending) reference
 
 -- the schedule that a BS begins, if it begins one, is in range
-abbrev pub range_in : BasicSchedule → Asked → Bool
+abbrev pub range_in : BasicSchedule → Action → Bool
 range_in b (AsksNew d) = in_range (begun_by b d)
 range_in b (AsksRevise d) = in_range (begun_by b d)
 range_in b AsksDelete = true

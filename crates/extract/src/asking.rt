@@ -4,7 +4,7 @@ ghost use Rattle.cif.specs.declared.content.Content.TheVariants.{Schedule as OfS
 ghost use Rattle.cif.specs.Refusals.{uppermost, fault_of};
 ghost use Rattle.schedule.specs.Building.{begun_with, with_call, bringing};
 ghost use Rattle.schedule.specs.Records.{in_range};
-ghost use Rattle.schedule.specs.Transactions.{plain_of};
+ghost use Rattle.schedule.specs.Transactions.{change_of};
 ghost use Rattle.timetable.specs.Timetables.{is_full};
 ghost use Rattle.timetable.specs.Laws.{has_key};
 ghost use Rattle.overlay.specs.Overlays.{overlay_of, pending_in};
@@ -13,7 +13,7 @@ ghost use Rattle.extract.specs.Judging.{content_lines, room_lines, call_row_line
 ghost use Rattle.extract.specs.Standings.{standing, range_in};
 
 use crate::extract::Extract;
-use cif::content::{BasicSchedule, Change, Location, Running};
+use cif::content::{Action, BasicSchedule, Location, Running};
 use cif::refusal::{ColumnFault, Refusal};
 use forms::letters::Stp;
 use overlay::overlay::Overlay;
@@ -41,13 +41,13 @@ pub fn key_in(b: &BasicSchedule) -> Key
 pub(crate) fn is_brief(b: &BasicSchedule) -> bool
     ensures { result ≡ is_brief b.now }
 {
-    matches!(b.change, Change::Delete) || b.stp == Stp::Cancellation
+    matches!(b.action, Action::Delete) || b.stp == Stp::Cancellation
 }
 
 // The schedule that a BS row begins, if it is in range.
 fn begun(key: Key, days: Running) -> Option<Schedule>
     ensures { MatchOption result (in_range (begun_with key days.to.0 days.days days.train) ≡ false)
-        (λ s. s.plain ≡ begun_with key days.to.0 days.days days.train) }
+        (λ s. s.fields ≡ begun_with key days.to.0 days.days days.train) }
 {
     let Running { to, days, train } = days;
     Schedule::begun(key, to.0, days, train)
@@ -55,14 +55,14 @@ fn begun(key: Key, days: Running) -> Option<Schedule>
 
 // The transaction that a BS row asks for, if it is in range.
 fn transaction_in(b: &BasicSchedule) -> Option<Transaction>
-    ensures { MatchOption result (range_in b.now b.now.change ≡ false)
-        (λ t. plain_of t ≡ asked_by b.now b.now.change) }
+    ensures { MatchOption result (range_in b.now b.now.action ≡ false)
+        (λ t. change_of t ≡ asked_by b.now b.now.action) }
 {
     let key = key_in(b);
-    match b.change {
-        Change::New(days) => Some(Transaction::New(begun(key, days)?)),
-        Change::Revise(days) => Some(Transaction::Revise(begun(key, days)?)),
-        Change::Delete => Some(Transaction::Delete(key)),
+    match b.action {
+        Action::New(days) => Some(Transaction::New(begun(key, days)?)),
+        Action::Revise(days) => Some(Transaction::Revise(begun(key, days)?)),
+        Action::Delete => Some(Transaction::Delete(key)),
     }
 }
 
@@ -81,9 +81,9 @@ impl Extract {
     // The transaction that is being read, with a location's call.
     pub(crate) fn called(&self, location: Location) -> Result<Transaction, ColumnFault>
         ensures told { fault_of result
-            ≡ uppermost (call_row_lines (plain_of self.now.draft) location self.now.taken) }
-        ensures call { IfOk result (λ t. plain_of t
-            ≡ bringing (λ s. with_call s location) (plain_of self.now.draft)) }
+            ≡ uppermost (call_row_lines (change_of self.now.draft) location self.now.taken) }
+        ensures call { IfOk result (λ t. change_of t
+            ≡ bringing (λ s. with_call s location) (change_of self.now.draft)) }
         ensures room { OnOk result (self.now.taken < 9999) }
     {
         let called = self.draft.with_call(location)?;
@@ -128,16 +128,16 @@ impl Extract {
         overlay: &mut Overlay<S>,
         b: &BasicSchedule,
     ) -> Result<Transaction, ColumnFault>
-        requires range { range_in b.now b.now.change ≡ true }
+        requires range { range_in b.now b.now.action ≡ true }
         ensures told { (reference : List ℕ) → fault_of result
             ≡ uppermost (content_lines
             (standing S.meaning self.now overlay.old reference) (OfSchedule b.now)) }
-        ensures transaction { IfOk result (λ t. plain_of t ≡ asked_by b.now b.now.change) }
+        ensures transaction { IfOk result (λ t. change_of t ≡ asked_by b.now b.now.action) }
         ensures rows { OnOk result (self.now.taken < 9999) }
         ensures room { OnOk result (length (pending_in overlay.old.pending) < 32) }
         ensures same { overlay.new ≡ overlay.old }
     {
-        self.may_change(overlay, key_in(b), matches!(b.change, Change::New(_)))?;
+        self.may_change(overlay, key_in(b), matches!(b.action, Action::New(_)))?;
         // numbers and days that were read are in range
         transaction_in(b).ok_or(Refusal::BadForm.at(10))
     }

@@ -99,7 +99,7 @@ impl Extract {
         b: &BasicSchedule,
     ) -> Result<(), ColumnFault>
         requires stage { self.old.stage ≡ IsBetween }
-        requires range { range_in b.now b.now.change ≡ true }
+        requires range { range_in b.now b.now.action ≡ true }
         ensures told { (reference : List ℕ)
             → GoesBy (progress_with self.new (pending_in overlay.new.pending))
             (verdict_on (standing S.meaning self.old overlay.old reference) (OfSchedule b.now))

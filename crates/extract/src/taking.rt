@@ -31,9 +31,9 @@ impl Extract {
                 let schedule = row.basic_schedule()?;
                 self.take_schedule(overlay, &schedule)
             }
-            (Stage::Between, Identity::LocationInsert) => self.pass(Stage::Between),
-            (Stage::Between, Identity::LocationAmend) => self.pass(Stage::Between),
-            (Stage::Between, Identity::LocationDelete) => self.pass(Stage::Between),
+            (Stage::Between, Identity::TiplocInsert) => self.pass(Stage::Between),
+            (Stage::Between, Identity::TiplocAmend) => self.pass(Stage::Between),
+            (Stage::Between, Identity::TiplocDelete) => self.pass(Stage::Between),
             (Stage::Between, Identity::Association) => self.pass(Stage::Between),
             (Stage::Between, Identity::Trailer) => {
                 self.stage = Stage::Complete;

@@ -4,8 +4,8 @@ use Rattle.std.specs.Option.{ok_or}
 use Rattle.forms.specs.declared.letters.UnknownLetter.{UnknownLetter}
 use Rattle.forms.specs.declared.letters.Stp.{Stp}
 use Rattle.forms.specs.declared.letters.Stp.TheVariants.{Cancellation, ShortTerm, Overlay, Permanent}
-use Rattle.forms.specs.declared.letters.Transaction.{Transaction}
-use Rattle.forms.specs.declared.letters.Transaction.TheVariants.{New, Revise, Delete}
+use Rattle.forms.specs.declared.letters.TransactionType.{TransactionType}
+use Rattle.forms.specs.declared.letters.TransactionType.TheVariants.{New, Revise, Delete}
 use Rattle.forms.specs.declared.letters.Coverage.{Coverage}
 use Rattle.forms.specs.declared.letters.Coverage.TheVariants.{Full, Update}
 
@@ -17,7 +17,7 @@ stp_letter Overlay = 79
 stp_letter Permanent = 80
 
 -- N, R and D
-abbrev pub transaction_letter : Transaction → ℕ
+abbrev pub transaction_letter : TransactionType → ℕ
 transaction_letter New = 78
 transaction_letter Revise = 82
 transaction_letter Delete = 68
@@ -37,7 +37,7 @@ abbrev pub stp_in : ℕ → Option Stp
 stp_in c = case_of stp_letter (Cancellation ∷ ShortTerm ∷ Overlay ∷ Permanent ∷ []) c
 
 -- the transaction letter's case
-abbrev pub transaction_in : ℕ → Option Transaction
+abbrev pub transaction_in : ℕ → Option TransactionType
 transaction_in c = case_of transaction_letter (New ∷ Revise ∷ Delete ∷ []) c
 
 -- the case of the letter of a full extract or an update

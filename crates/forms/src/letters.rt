@@ -58,7 +58,7 @@ impl Stp {
 
 /// What a BS row does with a schedule, by its transaction letter.
 #[derive(Clone, Copy, Debug, PartialEq, Eq)]
-pub enum Transaction {
+pub enum TransactionType {
     /// N: it is new.
     New = b'N' as isize,
     /// R: it takes the place of the one of its key.
@@ -67,22 +67,22 @@ pub enum Transaction {
     Delete = b'D' as isize,
 }
 
-impl TryFrom<char> for Transaction {
+impl TryFrom<char> for TransactionType {
     type Error = UnknownLetter;
 
     ghost try_from_gives = { λ letter r. r ≡ case_or_letter (transaction_in letter) letter };
 
     fn try_from(letter: char) -> Result<Self, UnknownLetter> {
         match letter {
-            'N' => Ok(Transaction::New),
-            'R' => Ok(Transaction::Revise),
-            'D' => Ok(Transaction::Delete),
+            'N' => Ok(TransactionType::New),
+            'R' => Ok(TransactionType::Revise),
+            'D' => Ok(TransactionType::Delete),
             _ => Err(UnknownLetter(letter)),
         }
     }
 }
 
-impl Transaction {
+impl TransactionType {
     /// The letter, in upper case.
     pub fn letter(self) -> u8
         ensures value { result ≡ transaction_letter self }

@@ -1,5 +1,5 @@
 //! Schedules put together from their rows, without the rules of extracts.
-use cif::content::{BasicSchedule, Change, Content, Location};
+use cif::content::{Action, BasicSchedule, Content, Location};
 use extract::asking::key_in;
 use forms::letters::Stp;
 use schedule::key::Key;
@@ -83,9 +83,9 @@ impl Draft {
 // What a BS begins, and what it asks at once.
 fn begin(basic: &BasicSchedule) -> (Draft, Option<Asked>) {
     let key = key_in(basic);
-    let days = match basic.change {
-        Change::Delete => return (Draft::new(), Some(Asked::Remove(key))),
-        Change::New(days) | Change::Revise(days) => days,
+    let days = match basic.action {
+        Action::Delete => return (Draft::new(), Some(Asked::Remove(key))),
+        Action::New(days) | Action::Revise(days) => days,
     };
     let Some(schedule) = Schedule::begun(key, days.to.0, days.days, days.train) else {
         return (Draft::new(), Some(Asked::Unfit(key)));

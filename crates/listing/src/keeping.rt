@@ -132,13 +132,13 @@ impl<'a> Both<'a> {
             stp: Stp::Cancellation,
         };
         for _ in 0..self.table.count() {
-            let Some(plain) = least(&mut self.table, probe) else {
+            let Some(fields) = least(&mut self.table, probe) else {
                 return Ok(false);
             };
-            let words = RecordWords(&plain);
+            let words = RecordWords(&fields);
             println!(rt; "{words}")?;
-            same = same && least(&mut self.bag, probe) == Some(plain);
-            probe = next_in_train(plain.key);
+            same = same && least(&mut self.bag, probe) == Some(fields);
+            probe = next_in_train(fields.key);
         }
         Ok(same)
     }

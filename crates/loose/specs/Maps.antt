@@ -2,7 +2,7 @@
 use Rattle.std.proofs.Common.{◌≡◌, ◌≤◌, Bool, true, false, List, length, ◌∙◌, arith}
 use Rattle.std.proofs.lemmas.List.{length-take-le}
 use Rattle.maps.specs.Orders.{Lawful}
-use Rattle.maps.specs.Maps.{ascending, apart, gathered}
+use Rattle.maps.specs.Maps.{ascending, has_distinct_keys, map_from}
 use Rattle.maps.proofs.Maps.{ascending_gathered}
 use Rattle.maps.proofs.Heaped.{length_gathered}
 use Rattle.ordered.specs.declared.slots.Slots.{Slots}
@@ -14,10 +14,10 @@ module _ {E K : Type 0} (before : K → K → Bool) (key : E → K) (irreflexive
   lawful : Lawful before
   lawful = record { irreflexive = irreflexive; transitive = transitive; total = total }
 
-  pub map_rises : (xs : List E) → ascending before key (gathered before key xs) ≡ true
+  pub map_rises : (xs : List E) → ascending before key (map_from before key xs) ≡ true
   map_rises xs = ascending_gathered before key lawful xs
 
-  pub map_fits : (s : Slots E) → apart before key (items s) ≡ true → length (gathered before key (items s)) ≤ room s
+  pub map_fits : (s : Slots E) → has_distinct_keys before key (items s) ≡ true → length (map_from before key (items s)) ≤ room s
   map_fits s a =
       let f = s.fits in
       let long = length_gathered before key lawful (items s) a ∙ length-take-le s.len s.slots.now s.fits in

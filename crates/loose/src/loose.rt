@@ -1,6 +1,6 @@
 // Elements in any order.
 ghost use Rattle.std.specs.Prelude.{◌≡◌, true, IsTrue};
-ghost use Rattle.maps.specs.Maps.{apart};
+ghost use Rattle.maps.specs.Maps.{has_distinct_keys};
 ghost use Rattle.ordered.specs.Tables.{items};
 
 use ordered::keys::Keyed;
@@ -11,5 +11,5 @@ use ordered::slots::Slots;
 pub struct Loose<'a, E: Keyed> {
     /// The slots, the first of which hold the elements.
     pub elements: Slots<'a, E>,
-    ghost distinct: { IsTrue (apart E.Key.before E.keyed (items elements)) },
+    ghost distinct: { IsTrue (has_distinct_keys E.Key.before E.keyed (items elements)) },
 }

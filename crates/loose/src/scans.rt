@@ -1,7 +1,7 @@
 // Searches from the first element to the last.
 ghost use Rattle.std.specs.Prelude.{◌≡◌, ℕ, Bool, true, false, length, MatchOption};
 ghost use Rattle.maps.specs.Orders.{same};
-ghost use Rattle.maps.specs.Maps.{lower, ceiling, gathered};
+ghost use Rattle.maps.specs.Maps.{lower, ceiling, map_from};
 ghost use Rattle.maps.specs.Places.{NoneOfKey, StandsFirstAt};
 
 use ordered::keys::{KeyOrder, Keyed};
@@ -37,7 +37,7 @@ fn lower_of<K: KeyOrder>(a: K, best: Option<K>) -> Option<K>
 // The lowest key that is not before `probe`, if there is one.
 pub(crate) fn lowest<E: Keyed>(elements: &[E], probe: E::Key) -> Option<E::Key>
     ensures { result
-        ≡ ceiling E.Key.before E.keyed (gathered E.Key.before E.keyed elements.now) probe }
+        ≡ ceiling E.Key.before E.keyed (map_from E.Key.before E.keyed elements.now) probe }
 {
     elements.iter().fold(None, |best, element| {
         let there = element.key();

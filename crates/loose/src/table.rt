@@ -1,6 +1,6 @@
 // What a loose table can be asked, and how it changes.
 ghost use Rattle.std.specs.Prelude.{◌≡◌, ℕ, ◌-◌, ◌<◌, [], length, take, slice_index_or, slice_set};
-ghost use Rattle.maps.specs.Maps.{lookup, gathered};
+ghost use Rattle.maps.specs.Maps.{lookup, map_from};
 ghost use Rattle.ordered.specs.Tables.{items, room, RestKept};
 ghost use Rattle.loose.specs.Maps.{map_rises, map_fits};
 
@@ -25,7 +25,7 @@ impl<E: Keyed> Loose<'_, E> {
 
 // The map is the elements put into the order of their keys.
 impl<E: Keyed> Mapped<E> for Loose<'_, E> {
-    ghost map = { λ t. gathered E.Key.before E.keyed (items t.elements) };
+    ghost map = { λ t. map_from E.Key.before E.keyed (items t.elements) };
 
     ghost slots = { λ t. t.elements };
 
@@ -38,7 +38,7 @@ impl<E: Keyed> Mapped<E> for Loose<'_, E> {
         t.elements t.distinct };
 
     fn len(&mut self) -> usize
-        ensures value { result ≡ length (gathered E.Key.before E.keyed (items self.old.elements)) }
+        ensures value { result ≡ length (map_from E.Key.before E.keyed (items self.old.elements)) }
         ensures held { result ≡ length (items self.old.elements) }
         ensures same { self.new ≡ self.old }
     {
@@ -51,7 +51,7 @@ impl<E: Keyed> Mapped<E> for Loose<'_, E> {
 
     fn find(&mut self, key: E::Key) -> Option<E>
         ensures value { result ≡ lookup E.Key.before E.keyed
-            (gathered E.Key.before E.keyed (items self.old.elements)) key }
+            (map_from E.Key.before E.keyed (items self.old.elements)) key }
         ensures held { result ≡ lookup E.Key.before E.keyed (items self.old.elements) key }
         ensures same { self.new ≡ self.old }
     {

@@ -3,7 +3,7 @@ use Rattle.std.proofs.Common.{◌≡◌, ℕ, zero, suc, ◌<◌, Bool, true, fa
 use Rattle.std.proofs.lemmas.Bool.{cases_Bool, both_ways, and_parts, and_from, not-true, true≢false}
 use Rattle.maps.specs.Orders.{Lawful, same}
 use Rattle.maps.specs.Places.{NoneOfKey}
-use Rattle.maps.specs.Maps.{lookup, including, excluding, gathered, apart}
+use Rattle.maps.specs.Maps.{lookup, with_element, without_element, map_from, has_distinct_keys}
 use Rattle.maps.proofs.Maps.{Stand, first, last, level, swap_cond, stand, same_first, same_last, same_level, same_is, some_none, lookup_including, lookup_excluding, same_maps, ascending_including, ascending_excluding, ascending_gathered, lookup_gathered}
 
 none_from : {X : Type 0} (o : Option X) → is_some o ≡ false → o ≡ None
@@ -32,7 +32,7 @@ module _ {E K : Type 0} (before : K → K → Bool) (key : E → K) (lawful : La
   none_passed (y ∷ ys) k h zero d l = none_head y ys k h
   none_passed (y ∷ ys) k h (suc j) d l = none_passed ys k (none_rest y ys k h) j d (omega arith)
 
-  pub length_including : (m : List E) (x : E) → lookup before key m (key x) ≡ None → length (including before key m x) ≡ suc (length m)
+  pub length_including : (m : List E) (x : E) → lookup before key m (key x) ≡ None → length (with_element before key m x) ≡ suc (length m)
   length_including [] x h = refl
   length_including (y ∷ ys) x h = elim (stand before key lawful (key y) (key x)) [
     | first p r ↦ rw p (ap suc (length_including ys x (let s = same_first before key lawful (key y) (key x) p in rw s at h)))
@@ -40,11 +40,11 @@ module _ {E K : Type 0} (before : K → K → Bool) (key : E → K) (lawful : La
     | level p r e ↦ absurd (some_none y (let s = same_level before key lawful (key y) (key x) e in rw s at h))
   ]
 
-  pub length_gathered : (xs : List E) → apart before key xs ≡ true → length (gathered before key xs) ≡ length xs
+  pub length_gathered : (xs : List E) → has_distinct_keys before key xs ≡ true → length (map_from before key xs) ≡ length xs
   length_gathered [] a = refl
   length_gathered (x ∷ xs) a =
-      let p = and_parts (not (is_some (lookup before key xs (key x)))) (apart before key xs) a in
-      length_including (gathered before key xs) x (lookup_gathered before key lawful xs (key x) ∙ none_from (lookup before key xs (key x)) (not-true (is_some (lookup before key xs (key x))) p.0))
+      let p = and_parts (not (is_some (lookup before key xs (key x)))) (has_distinct_keys before key xs) a in
+      length_including (map_from before key xs) x (lookup_gathered before key lawful xs (key x) ∙ none_from (lookup before key xs (key x)) (not-true (is_some (lookup before key xs (key x))) p.0))
       ∙ ap suc (length_gathered xs p.1)
 
   -- One more entry at the end.
@@ -57,29 +57,29 @@ module _ {E K : Type 0} (before : K → K → Bool) (key : E → K) (lawful : La
       ∙ swap_cond (same before (key y) q) (same before (key x) q) (Some y) (Some x) (lookup before key ys q)
       (λ s t. both_ways (same before (key y) (key x)) f (same_level before key lawful (key y) (key x) (same_is before key lawful (key y) q s ∙ sym (same_is before key lawful (key x) q t))))
 
-  pub gathered_push : (xs : List E) (x : E) → lookup before key xs (key x) ≡ None → gathered before key (xs ++ x ∷ []) ≡ including before key (gathered before key xs) x
+  pub gathered_push : (xs : List E) (x : E) → lookup before key xs (key x) ≡ None → map_from before key (xs ++ x ∷ []) ≡ with_element before key (map_from before key xs) x
   gathered_push xs x h =
-      same_maps before key lawful (gathered before key (xs ++ x ∷ [])) (including before key (gathered before key xs) x)
+      same_maps before key lawful (map_from before key (xs ++ x ∷ [])) (with_element before key (map_from before key xs) x)
       (ascending_gathered before key lawful (xs ++ x ∷ []))
-      (ascending_including before key lawful (gathered before key xs) x (ascending_gathered before key lawful xs))
+      (ascending_including before key lawful (map_from before key xs) x (ascending_gathered before key lawful xs))
       (λ q.
       lookup_gathered before key lawful (xs ++ x ∷ []) q
       ∙ lookup_push xs x q h
-      ∙ sym (lookup_including before key lawful (gathered before key xs) x q ∙ ap (λ t. cond (same before (key x) q) (Some x) t) (lookup_gathered before key lawful xs q)))
+      ∙ sym (lookup_including before key lawful (map_from before key xs) x q ∙ ap (λ t. cond (same before (key x) q) (Some x) t) (lookup_gathered before key lawful xs q)))
 
-  apart_from : (x : E) (xs : List E) → lookup before key xs (key x) ≡ None → apart before key xs ≡ true → apart before key (x ∷ xs) ≡ true
-  apart_from x xs n a = and_from (not (is_some (lookup before key xs (key x)))) (apart before key xs) (ap (λ o. not (is_some o)) n) a
+  apart_from : (x : E) (xs : List E) → lookup before key xs (key x) ≡ None → has_distinct_keys before key xs ≡ true → has_distinct_keys before key (x ∷ xs) ≡ true
+  apart_from x xs n a = and_from (not (is_some (lookup before key xs (key x)))) (has_distinct_keys before key xs) (ap (λ o. not (is_some o)) n) a
 
-  apart_none : (x : E) (xs : List E) → apart before key (x ∷ xs) ≡ true → lookup before key xs (key x) ≡ None
-  apart_none x xs a = none_from (lookup before key xs (key x)) (not-true (is_some (lookup before key xs (key x))) (and_parts (not (is_some (lookup before key xs (key x)))) (apart before key xs) a).0)
+  apart_none : (x : E) (xs : List E) → has_distinct_keys before key (x ∷ xs) ≡ true → lookup before key xs (key x) ≡ None
+  apart_none x xs a = none_from (lookup before key xs (key x)) (not-true (is_some (lookup before key xs (key x))) (and_parts (not (is_some (lookup before key xs (key x)))) (has_distinct_keys before key xs) a).0)
 
-  apart_rest : (x : E) (xs : List E) → apart before key (x ∷ xs) ≡ true → apart before key xs ≡ true
-  apart_rest x xs a = (and_parts (not (is_some (lookup before key xs (key x)))) (apart before key xs) a).1
+  apart_rest : (x : E) (xs : List E) → has_distinct_keys before key (x ∷ xs) ≡ true → has_distinct_keys before key xs ≡ true
+  apart_rest x xs a = (and_parts (not (is_some (lookup before key xs (key x)))) (has_distinct_keys before key xs) a).1
 
   same_flip : (a b : K) → same before a b ≡ false → same before b a ≡ false
   same_flip a b h = elim (cases_Bool (same before b a)) [ inl t ↦ absurd (both_ways (same before a b) h (same_level before key lawful a b (sym (same_is before key lawful b a t)))) | inr f ↦ f ]
 
-  pub apart_push : (xs : List E) (x : E) → lookup before key xs (key x) ≡ None → apart before key xs ≡ true → apart before key (xs ++ x ∷ []) ≡ true
+  pub apart_push : (xs : List E) (x : E) → lookup before key xs (key x) ≡ None → has_distinct_keys before key xs ≡ true → has_distinct_keys before key (xs ++ x ∷ []) ≡ true
   apart_push [] x h a = refl
   apart_push (y ∷ ys) x h a =
       let f = none_passed (y ∷ ys) (key x) h 0 y (omega arith) in
@@ -97,17 +97,17 @@ module _ {E K : Type 0} (before : K → K → Bool) (key : E → K) (lawful : La
       ∙ swap_cond (same before (key y) q) (same before (key x) q) (Some y) (Some x) (lookup before key ys q)
       (λ s t. both_ways (same before (key y) (key x)) f (same_level before key lawful (key y) (key x) (same_is before key lawful (key y) q s ∙ sym (same_is before key lawful (key x) q t))))
 
-  pub gathered_set : (xs : List E) (i : ℕ) (d x : E) → i < length xs → NoneOfKey before key xs (key x) i → key (get_or xs i d) ≡ key x → gathered before key (set xs i x) ≡ including before key (gathered before key xs) x
+  pub gathered_set : (xs : List E) (i : ℕ) (d x : E) → i < length xs → NoneOfKey before key xs (key x) i → key (get_or xs i d) ≡ key x → map_from before key (set xs i x) ≡ with_element before key (map_from before key xs) x
   gathered_set xs i d x l h e =
-      same_maps before key lawful (gathered before key (set xs i x)) (including before key (gathered before key xs) x)
+      same_maps before key lawful (map_from before key (set xs i x)) (with_element before key (map_from before key xs) x)
       (ascending_gathered before key lawful (set xs i x))
-      (ascending_including before key lawful (gathered before key xs) x (ascending_gathered before key lawful xs))
+      (ascending_including before key lawful (map_from before key xs) x (ascending_gathered before key lawful xs))
       (λ q.
       lookup_gathered before key lawful (set xs i x) q
       ∙ lookup_set xs i d x q l h e
-      ∙ sym (lookup_including before key lawful (gathered before key xs) x q ∙ ap (λ t. cond (same before (key x) q) (Some x) t) (lookup_gathered before key lawful xs q)))
+      ∙ sym (lookup_including before key lawful (map_from before key xs) x q ∙ ap (λ t. cond (same before (key x) q) (Some x) t) (lookup_gathered before key lawful xs q)))
 
-  pub apart_set : (xs : List E) (i : ℕ) (d x : E) → i < length xs → NoneOfKey before key xs (key x) i → key (get_or xs i d) ≡ key x → apart before key xs ≡ true → apart before key (set xs i x) ≡ true
+  pub apart_set : (xs : List E) (i : ℕ) (d x : E) → i < length xs → NoneOfKey before key xs (key x) i → key (get_or xs i d) ≡ key x → has_distinct_keys before key xs ≡ true → has_distinct_keys before key (set xs i x) ≡ true
   apart_set [] i d x l h e a = refl
   apart_set (y ∷ ys) zero d x l h e a = apart_from x ys (subst (λ (c : K). lookup before key ys c ≡ None) e (apart_none y ys a)) (apart_rest y ys a)
   apart_set (y ∷ ys) (suc i) d x l h e a =
@@ -125,18 +125,18 @@ module _ {E K : Type 0} (before : K → K → Bool) (key : E → K) (lawful : La
   front_none (z ∷ zs) l q h = let f = none_head z (zs ++ l ∷ []) q h in rw f (front_none zs l q (none_rest z (zs ++ l ∷ []) q h))
 
   -- Of distinct entries, the last may come first.
-  apart_last : (zs : List E) (l : E) → apart before key (zs ++ l ∷ []) ≡ true → lookup before key zs (key l) ≡ None
+  apart_last : (zs : List E) (l : E) → has_distinct_keys before key (zs ++ l ∷ []) ≡ true → lookup before key zs (key l) ≡ None
   apart_last [] l a = refl
   apart_last (z ∷ zs) l a =
       let f : same before (key z) (key l) ≡ false = same_flip (key l) (key z) (last_other zs l (key z) (apart_none z (zs ++ l ∷ []) a)) in
       rw f (apart_last zs l (apart_rest z (zs ++ l ∷ []) a))
 
-  apart_front : (zs : List E) (l : E) → apart before key (zs ++ l ∷ []) ≡ true → apart before key zs ≡ true
+  apart_front : (zs : List E) (l : E) → has_distinct_keys before key (zs ++ l ∷ []) ≡ true → has_distinct_keys before key zs ≡ true
   apart_front [] l a = refl
   apart_front (z ∷ zs) l a = apart_from z zs (front_none zs l (key z) (apart_none z (zs ++ l ∷ []) a)) (apart_front zs l (apart_rest z (zs ++ l ∷ []) a))
 
   -- The last entry in the place of the one at i, which goes.
-  lookup_swap : (zs : List E) (l : E) (i : ℕ) (d : E) (k q : K) → apart before key (zs ++ l ∷ []) ≡ true → i < length (zs ++ l ∷ []) → key (get_or (zs ++ l ∷ []) i d) ≡ k → lookup before key (set zs i l) q ≡ cond (same before k q) None (lookup before key (zs ++ l ∷ []) q)
+  lookup_swap : (zs : List E) (l : E) (i : ℕ) (d : E) (k q : K) → has_distinct_keys before key (zs ++ l ∷ []) ≡ true → i < length (zs ++ l ∷ []) → key (get_or (zs ++ l ∷ []) i d) ≡ k → lookup before key (set zs i l) q ≡ cond (same before k q) None (lookup before key (zs ++ l ∷ []) q)
   lookup_swap [] l zero d k q a m e = elim (cases_Bool (same before k q)) [
     | inl t ↦ rw t refl
     | inr f ↦ rw f (let g : same before (key l) q ≡ false = ap (λ c. same before c q) e ∙ f in rw g refl)
@@ -155,17 +155,17 @@ module _ {E K : Type 0} (before : K → K → Bool) (key : E → K) (lawful : La
       (λ s t. both_ways (same before (key (get_or (zs ++ l ∷ []) i d)) (key z)) (none_passed (zs ++ l ∷ []) (key z) (apart_none z (zs ++ l ∷ []) a) i d (omega arith))
       (same_level before key lawful (key (get_or (zs ++ l ∷ []) i d)) (key z) (e ∙ same_is before key lawful k q t ∙ sym (same_is before key lawful (key z) q s))))
 
-  pub gathered_swap : (zs : List E) (l : E) (i : ℕ) (d : E) (k : K) → apart before key (zs ++ l ∷ []) ≡ true → i < length (zs ++ l ∷ []) → key (get_or (zs ++ l ∷ []) i d) ≡ k → gathered before key (set zs i l) ≡ excluding before key (gathered before key (zs ++ l ∷ [])) k
+  pub gathered_swap : (zs : List E) (l : E) (i : ℕ) (d : E) (k : K) → has_distinct_keys before key (zs ++ l ∷ []) ≡ true → i < length (zs ++ l ∷ []) → key (get_or (zs ++ l ∷ []) i d) ≡ k → map_from before key (set zs i l) ≡ without_element before key (map_from before key (zs ++ l ∷ [])) k
   gathered_swap zs l i d k a m e =
-      same_maps before key lawful (gathered before key (set zs i l)) (excluding before key (gathered before key (zs ++ l ∷ [])) k)
+      same_maps before key lawful (map_from before key (set zs i l)) (without_element before key (map_from before key (zs ++ l ∷ [])) k)
       (ascending_gathered before key lawful (set zs i l))
-      (ascending_excluding before key lawful (gathered before key (zs ++ l ∷ [])) k (ascending_gathered before key lawful (zs ++ l ∷ [])))
+      (ascending_excluding before key lawful (map_from before key (zs ++ l ∷ [])) k (ascending_gathered before key lawful (zs ++ l ∷ [])))
       (λ q.
       lookup_gathered before key lawful (set zs i l) q
       ∙ lookup_swap zs l i d k q a m e
-      ∙ sym (lookup_excluding before key lawful (gathered before key (zs ++ l ∷ [])) k q (ascending_gathered before key lawful (zs ++ l ∷ [])) ∙ ap (λ t. cond (same before k q) None t) (lookup_gathered before key lawful (zs ++ l ∷ []) q)))
+      ∙ sym (lookup_excluding before key lawful (map_from before key (zs ++ l ∷ [])) k q (ascending_gathered before key lawful (zs ++ l ∷ [])) ∙ ap (λ t. cond (same before k q) None t) (lookup_gathered before key lawful (zs ++ l ∷ []) q)))
 
-  pub apart_swap : (zs : List E) (l : E) (i : ℕ) → apart before key (zs ++ l ∷ []) ≡ true → i < length (zs ++ l ∷ []) → apart before key (set zs i l) ≡ true
+  pub apart_swap : (zs : List E) (l : E) (i : ℕ) → has_distinct_keys before key (zs ++ l ∷ []) ≡ true → i < length (zs ++ l ∷ []) → has_distinct_keys before key (set zs i l) ≡ true
   apart_swap [] l i a m = refl
   apart_swap (z ∷ zs) l zero a m = apart_from l zs (apart_last zs l (apart_rest z (zs ++ l ∷ []) a)) (apart_front zs l (apart_rest z (zs ++ l ∷ []) a))
   apart_swap (z ∷ zs) l (suc i) a m =

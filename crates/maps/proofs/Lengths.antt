@@ -2,7 +2,7 @@
 use Rattle.std.proofs.Common.{◌≡◌, suc, Bool, true, List, [], ◌∷◌, length, is_some, Some, sym, refl, ap, ◌∙◌}
 use Rattle.std.proofs.lemmas.Bool.{both_ways, and_parts, true≢false, cond-false}
 use Rattle.maps.specs.Orders.{Lawful, same}
-use Rattle.maps.specs.Maps.{after, ascending, lookup, including, excluding}
+use Rattle.maps.specs.Maps.{after, ascending, lookup, with_element, without_element}
 use Rattle.maps.proofs.Maps.{first, last, level, stand, same_first, lookup_after, after_head}
 
 module _ {E K : Type 0} (before : K → K → Bool) (key : E → K) (lawful : Lawful before) where
@@ -13,7 +13,7 @@ module _ {E K : Type 0} (before : K → K → Bool) (key : E → K) (lawful : La
   nowhere y ys k a r h = both_ways (is_some (lookup before key (y ∷ ys) k)) (ap is_some (lookup_after before key lawful k (y ∷ ys) (after_head before key lawful k y ys r a))) h
 
   -- an entry in the place of one of its key
-  pub length_again : (m : List E) (x : E) → ascending before key m ≡ true → is_some (lookup before key m (key x)) ≡ true → length (including before key m x) ≡ length m
+  pub length_again : (m : List E) (x : E) → ascending before key m ≡ true → is_some (lookup before key m (key x)) ≡ true → length (with_element before key m x) ≡ length m
   length_again [] x a h = absurd (true≢false (sym h))
   length_again (y ∷ ys) x a h =
       let parts = and_parts (after before key (key y) ys) (ascending before key ys) a in
@@ -24,7 +24,7 @@ module _ {E K : Type 0} (before : K → K → Bool) (key : E → K) (lawful : La
       ]
 
   -- a key that is taken out
-  pub length_without : (m : List E) (k : K) → ascending before key m ≡ true → is_some (lookup before key m k) ≡ true → suc (length (excluding before key m k)) ≡ length m
+  pub length_without : (m : List E) (k : K) → ascending before key m ≡ true → is_some (lookup before key m k) ≡ true → suc (length (without_element before key m k)) ≡ length m
   length_without [] k a h = absurd (true≢false (sym h))
   length_without (y ∷ ys) k a h =
       let parts = and_parts (after before key (key y) ys) (ascending before key ys) a in

@@ -2,7 +2,7 @@
 use Rattle.std.proofs.Common.{◌≡◌, Bool, true, false, cond, List, [], ◌∷◌, ◌++◌, Some, None, Option, sym, refl, ap, ◌∙◌, inl, inr}
 use Rattle.std.proofs.lemmas.Bool.{cases_Bool, both_ways, and_parts}
 use Rattle.maps.specs.Orders.{Lawful}
-use Rattle.maps.specs.Maps.{after, ascending, including, ceiling, gathered, lower}
+use Rattle.maps.specs.Maps.{after, ascending, with_element, ceiling, map_from, lower}
 use Rattle.maps.proofs.Maps.{first, last, level, stand, asymmetric, after_head, ascending_gathered}
 
 module _ {E K : Type 0} (before : K → K → Bool) (key : E → K) (lawful : Lawful before) where
@@ -15,7 +15,7 @@ module _ {E K : Type 0} (before : K → K → Bool) (key : E → K) (lawful : La
         | inr f ↦ rw f (let q = asymmetric before key lawful a (key y) p.0 in rw q refl)
       ]
 
-  pub ceiling_including : (m : List E) (x : E) (k : K) → ascending before key m ≡ true → ceiling before key (including before key m x) k ≡ cond (before (key x) k) (ceiling before key m k) (lower before (key x) (ceiling before key m k))
+  pub ceiling_including : (m : List E) (x : E) (k : K) → ascending before key m ≡ true → ceiling before key (with_element before key m x) k ≡ cond (before (key x) k) (ceiling before key m k) (lower before (key x) (ceiling before key m k))
   ceiling_including [] x k a = refl
   ceiling_including (y ∷ ys) x k a =
       let parts = and_parts (after before key (key y) ys) (ascending before key ys) a in
@@ -40,8 +40,8 @@ module _ {E K : Type 0} (before : K → K → Bool) (key : E → K) (lawful : La
       ]
 
   -- One entry more in front of a pile.
-  pub ceiling_gathered : (xs : List E) (x : E) (k : K) → ceiling before key (gathered before key (x ∷ xs)) k ≡ cond (before (key x) k) (ceiling before key (gathered before key xs) k) (lower before (key x) (ceiling before key (gathered before key xs) k))
-  ceiling_gathered xs x k = ceiling_including (gathered before key xs) x k (ascending_gathered before key lawful xs)
+  pub ceiling_gathered : (xs : List E) (x : E) (k : K) → ceiling before key (map_from before key (x ∷ xs)) k ≡ cond (before (key x) k) (ceiling before key (map_from before key xs) k) (lower before (key x) (ceiling before key (map_from before key xs) k))
+  ceiling_gathered xs x k = ceiling_including (map_from before key xs) x k (ascending_gathered before key lawful xs)
 
   -- what is not after c is before all that c is before
   before_more : (x y c : K) → before c x ≡ false → before c y ≡ true → before x y ≡ true
@@ -79,10 +79,10 @@ module _ {E K : Type 0} (before : K → K → Bool) (key : E → K) (lawful : La
   swap_either false false x y o = lower_either x y o
 
   -- One entry more at the end of a pile.
-  pub ceiling_push : (xs : List E) (x : E) (k : K) → ceiling before key (gathered before key (xs ++ x ∷ [])) k ≡ cond (before (key x) k) (ceiling before key (gathered before key xs) k) (lower before (key x) (ceiling before key (gathered before key xs) k))
+  pub ceiling_push : (xs : List E) (x : E) (k : K) → ceiling before key (map_from before key (xs ++ x ∷ [])) k ≡ cond (before (key x) k) (ceiling before key (map_from before key xs) k) (lower before (key x) (ceiling before key (map_from before key xs) k))
   ceiling_push [] x k = refl
   ceiling_push (y ∷ ys) x k =
       ceiling_gathered (ys ++ x ∷ []) y k
       ∙ ap (λ o. cond (before (key y) k) o (lower before (key y) o)) (ceiling_push ys x k)
-      ∙ swap_either (before (key y) k) (before (key x) k) (key y) (key x) (ceiling before key (gathered before key ys) k)
+      ∙ swap_either (before (key y) k) (before (key x) k) (key y) (key x) (ceiling before key (map_from before key ys) k)
       ∙ sym (ap (λ o. cond (before (key x) k) o (lower before (key x) o)) (ceiling_gathered ys y k))

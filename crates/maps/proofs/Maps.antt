@@ -2,7 +2,7 @@
 use Rattle.std.proofs.Common.{◌≡◌, ℕ, Bool, true, false, cond, not, List, [], ◌∷◌, Some, None, sym, refl, ap, ◌∙◌, subst, inl, inr, ⊎_elim, arith}
 use Rattle.std.proofs.lemmas.Bool.{cases_Bool, both_ways, and_parts, and_from, and_left, and_right, not-true, not_from_true, not_from_false, false≢true}
 use Rattle.maps.specs.Orders.{Lawful, same}
-use Rattle.maps.specs.Maps.{after, ascending, lookup, including, excluding, gathered}
+use Rattle.maps.specs.Maps.{after, ascending, lookup, with_element, without_element, map_from}
 
 -- How two keys stand.
 pub data Stand {K : Type 0} (before : K → K → Bool) (a b : K) : Type 0 where
@@ -60,7 +60,7 @@ module _ {E K : Type 0} (before : K → K → Bool) (key : E → K) (lawful : La
   pub after_head : (q : K) (y : E) (ys : List E) → before q (key y) ≡ true → ascending before key (y ∷ ys) ≡ true → after before key q (y ∷ ys) ≡ true
   after_head q y ys h a = let p = and_parts (after before key (key y) ys) (ascending before key ys) a in and_from (before q (key y)) (after before key q ys) h (after_below q (key y) ys h p.0)
 
-  pub lookup_including : (m : List E) (x : E) (q : K) → lookup before key (including before key m x) q ≡ cond (same before (key x) q) (Some x) (lookup before key m q)
+  pub lookup_including : (m : List E) (x : E) (q : K) → lookup before key (with_element before key m x) q ≡ cond (same before (key x) q) (Some x) (lookup before key m q)
   lookup_including [] x q = refl
   lookup_including (y ∷ ys) x q = elim (stand (key y) (key x)) [
     | first p r ↦ rw p (ap (λ t. cond (same before (key y) q) (Some y) t) (lookup_including ys x q) ∙ swap_cond (same before (key y) q) (same before (key x) q) (Some y) (Some x) (lookup before key ys q) (same_clash (key y) (key x) q p))
@@ -68,7 +68,7 @@ module _ {E K : Type 0} (before : K → K → Bool) (key : E → K) (lawful : La
     | level p r e ↦ rw (p, r) (shadow_cond (same before (key x) q) (same before (key y) q) (Some x) (Some y) (lookup before key ys q) (ap (λ c. same before c q) (sym e)))
   ]
 
-  pub lookup_excluding : (m : List E) (k q : K) → ascending before key m ≡ true → lookup before key (excluding before key m k) q ≡ cond (same before k q) None (lookup before key m q)
+  pub lookup_excluding : (m : List E) (k q : K) → ascending before key m ≡ true → lookup before key (without_element before key m k) q ≡ cond (same before k q) None (lookup before key m q)
   lookup_excluding [] k q a = elim (cases_Bool (same before k q)) [ inl t ↦ rw t refl | inr f ↦ rw f refl ]
   lookup_excluding (y ∷ ys) k q a =
       let parts = and_parts (after before key (key y) ys) (ascending before key ys) a in
@@ -111,58 +111,58 @@ module _ {E K : Type 0} (before : K → K → Bool) (key : E → K) (lawful : La
             cc
       ]
 
-  after_including : (k : K) (m : List E) (x : E) → before k (key x) ≡ true → after before key k m ≡ true → after before key k (including before key m x) ≡ true
+  after_including : (k : K) (m : List E) (x : E) → before k (key x) ≡ true → after before key k m ≡ true → after before key k (with_element before key m x) ≡ true
   after_including k [] x h a = and_from (before k (key x)) true h refl
   after_including k (y ∷ ys) x h a =
       let p = and_parts (before k (key y)) (after before key k ys) a in
       elim (stand (key y) (key x)) [
-        | first q r ↦ rw q (and_from (before k (key y)) (after before key k (including before key ys x)) p.0 (after_including k ys x h p.1))
+        | first q r ↦ rw q (and_from (before k (key y)) (after before key k (with_element before key ys x)) p.0 (after_including k ys x h p.1))
         | last q r ↦ rw (q, r) (and_from (before k (key x)) (after before key k (y ∷ ys)) h a)
         | level q r e ↦ rw (q, r) (and_from (before k (key x)) (after before key k ys) h p.1)
       ]
 
-  pub ascending_including : (m : List E) (x : E) → ascending before key m ≡ true → ascending before key (including before key m x) ≡ true
+  pub ascending_including : (m : List E) (x : E) → ascending before key m ≡ true → ascending before key (with_element before key m x) ≡ true
   ascending_including [] x a = refl
   ascending_including (y ∷ ys) x a =
       let p = and_parts (after before key (key y) ys) (ascending before key ys) a in
       elim (stand (key y) (key x)) [
-        | first q r ↦ rw q (and_from (after before key (key y) (including before key ys x)) (ascending before key (including before key ys x)) (after_including (key y) ys x q p.0) (ascending_including ys x p.1))
+        | first q r ↦ rw q (and_from (after before key (key y) (with_element before key ys x)) (ascending before key (with_element before key ys x)) (after_including (key y) ys x q p.0) (ascending_including ys x p.1))
         | last q r ↦ rw (q, r) (and_from (after before key (key x) (y ∷ ys)) (ascending before key (y ∷ ys)) (after_head (key x) y ys r a) a)
         | level q r e ↦ rw (q, r) (and_from (after before key (key x) ys) (ascending before key ys) (subst (λ (c : K). after before key c ys ≡ true) e p.0) p.1)
       ]
 
-  after_excluding : (j : K) (m : List E) (k : K) → after before key j m ≡ true → after before key j (excluding before key m k) ≡ true
+  after_excluding : (j : K) (m : List E) (k : K) → after before key j m ≡ true → after before key j (without_element before key m k) ≡ true
   after_excluding j [] k a = refl
   after_excluding j (y ∷ ys) k a =
       let p = and_parts (before j (key y)) (after before key j ys) a in
       elim (stand (key y) k) [
-        | first q r ↦ rw q (and_from (before j (key y)) (after before key j (excluding before key ys k)) p.0 (after_excluding j ys k p.1))
+        | first q r ↦ rw q (and_from (before j (key y)) (after before key j (without_element before key ys k)) p.0 (after_excluding j ys k p.1))
         | last q r ↦ rw (q, r) a
         | level q r e ↦ rw (q, r) p.1
       ]
 
-  pub ascending_excluding : (m : List E) (k : K) → ascending before key m ≡ true → ascending before key (excluding before key m k) ≡ true
+  pub ascending_excluding : (m : List E) (k : K) → ascending before key m ≡ true → ascending before key (without_element before key m k) ≡ true
   ascending_excluding [] k a = refl
   ascending_excluding (y ∷ ys) k a =
       let p = and_parts (after before key (key y) ys) (ascending before key ys) a in
       elim (stand (key y) k) [
-        | first q r ↦ rw q (and_from (after before key (key y) (excluding before key ys k)) (ascending before key (excluding before key ys k)) (after_excluding (key y) ys k p.0) (ascending_excluding ys k p.1))
+        | first q r ↦ rw q (and_from (after before key (key y) (without_element before key ys k)) (ascending before key (without_element before key ys k)) (after_excluding (key y) ys k p.0) (ascending_excluding ys k p.1))
         | last q r ↦ rw (q, r) a
         | level q r e ↦ rw (q, r) p.1
       ]
 
-  pub ascending_gathered : (xs : List E) → ascending before key (gathered before key xs) ≡ true
+  pub ascending_gathered : (xs : List E) → ascending before key (map_from before key xs) ≡ true
   ascending_gathered [] = refl
-  ascending_gathered (x ∷ xs) = ascending_including (gathered before key xs) x (ascending_gathered xs)
+  ascending_gathered (x ∷ xs) = ascending_including (map_from before key xs) x (ascending_gathered xs)
 
-  pub lookup_gathered : (xs : List E) (q : K) → lookup before key (gathered before key xs) q ≡ lookup before key xs q
+  pub lookup_gathered : (xs : List E) (q : K) → lookup before key (map_from before key xs) q ≡ lookup before key xs q
   lookup_gathered [] q = refl
-  lookup_gathered (x ∷ xs) q = lookup_including (gathered before key xs) x q ∙ ap (λ t. cond (same before (key x) q) (Some x) t) (lookup_gathered xs q)
+  lookup_gathered (x ∷ xs) q = lookup_including (map_from before key xs) x q ∙ ap (λ t. cond (same before (key x) q) (Some x) t) (lookup_gathered xs q)
 
   -- Without a key that is not there, a map is as it was.
-  pub excluding_absent : (m : List E) (k : K) → ascending before key m ≡ true → lookup before key m k ≡ None → excluding before key m k ≡ m
+  pub excluding_absent : (m : List E) (k : K) → ascending before key m ≡ true → lookup before key m k ≡ None → without_element before key m k ≡ m
   excluding_absent m k a h =
-      same_maps (excluding before key m k) m (ascending_excluding m k a) a
+      same_maps (without_element before key m k) m (ascending_excluding m k a) a
       (λ q. lookup_excluding m k q a ∙ elim (cases_Bool (same before k q)) [
         | inl t ↦ rw t (sym (subst (λ (c : K). lookup before key m c ≡ None) (same_is k q t) h))
         | inr f ↦ rw f refl

@@ -5,7 +5,7 @@ use Rattle.std.proofs.lemmas.List.{get_or-take, length-take-le}
 use Rattle.std.proofs.lemmas.Bool.{and_parts}
 use Rattle.maps.specs.Orders.{Lawful}
 use Rattle.maps.specs.Places.{Ascends, AllBelow, StandsAt, BelongsAt}
-use Rattle.maps.specs.Maps.{after, ascending, lookup, including, excluding, ceiling}
+use Rattle.maps.specs.Maps.{after, ascending, lookup, with_element, without_element, ceiling}
 use Rattle.maps.proofs.Maps.{same_first, same_level, lookup_after}
 
 get_d_after : {E K : Type 0} (before : K → K → Bool) (key : E → K) (k : K) (xs : List E) → after before key k xs ≡ true → (j : ℕ) (d : E) → j < length xs → before k (key (get_or xs j d)) ≡ true
@@ -40,7 +40,7 @@ module _ {E K : Type 0} (before : K → K → Bool) (key : E → K) where
   miss_tail y ys k i h = let w = h.within in record { within = omega arith; under = under_tail y ys k i h.under; past = λ d l. h.past d (omega arith) }
 
 module _ {E K : Type 0} (before : K → K → Bool) (key : E → K) (lawful : Lawful before) where
-  pub hit_including : (xs : List E) (i : ℕ) (x : E) → StandsAt before key xs (key x) i → including before key xs x ≡ set xs i x
+  pub hit_including : (xs : List E) (i : ℕ) (x : E) → StandsAt before key xs (key x) i → with_element before key xs x ≡ set xs i x
   hit_including [] i x h = let w = h.within in absurd (let z : ⊥ = omega arith in z)
   hit_including (y ∷ ys) zero x h =
       let e = h.is y in
@@ -49,7 +49,7 @@ module _ {E K : Type 0} (before : K → K → Bool) (key : E → K) (lawful : La
       rw (p, q) refl
   hit_including (y ∷ ys) (suc i) x h = let p = h.under 0 y (omega arith) in rw p (ap (λ t. y ∷ t) (hit_including ys i x (hit_tail before key y ys (key x) i h)))
 
-  pub miss_including : (xs : List E) (i : ℕ) (x : E) → BelongsAt before key xs (key x) i → including before key xs x ≡ insert xs i x
+  pub miss_including : (xs : List E) (i : ℕ) (x : E) → BelongsAt before key xs (key x) i → with_element before key xs x ≡ insert xs i x
   miss_including [] zero x h = refl
   miss_including [] (suc i) x h = let w = h.within in absurd (let z : ⊥ = omega arith in z)
   miss_including (y ∷ ys) zero x h =
@@ -58,7 +58,7 @@ module _ {E K : Type 0} (before : K → K → Bool) (key : E → K) (lawful : La
       rw (p, q) refl
   miss_including (y ∷ ys) (suc i) x h = let p = h.under 0 y (omega arith) in rw p (ap (λ t. y ∷ t) (miss_including ys i x (miss_tail before key y ys (key x) i h)))
 
-  pub hit_excluding : (xs : List E) (i : ℕ) (k : K) → StandsAt before key xs k i → excluding before key xs k ≡ remove xs i
+  pub hit_excluding : (xs : List E) (i : ℕ) (k : K) → StandsAt before key xs k i → without_element before key xs k ≡ remove xs i
   hit_excluding [] i k h = let w = h.within in absurd (let z : ⊥ = omega arith in z)
   hit_excluding (y ∷ ys) zero k h =
       let e = h.is y in
@@ -67,7 +67,7 @@ module _ {E K : Type 0} (before : K → K → Bool) (key : E → K) (lawful : La
       rw (p, q) refl
   hit_excluding (y ∷ ys) (suc i) k h = let p = h.under 0 y (omega arith) in rw p (ap (λ t. y ∷ t) (hit_excluding ys i k (hit_tail before key y ys k i h)))
 
-  pub miss_excluding : (xs : List E) (i : ℕ) (k : K) → BelongsAt before key xs k i → excluding before key xs k ≡ xs
+  pub miss_excluding : (xs : List E) (i : ℕ) (k : K) → BelongsAt before key xs k i → without_element before key xs k ≡ xs
   miss_excluding [] i k h = refl
   miss_excluding (y ∷ ys) zero k h =
       let q : before k (key y) ≡ true = h.past y (omega arith) in

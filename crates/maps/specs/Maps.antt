@@ -19,16 +19,16 @@ module _ {E K : Type 0} (before : K → K → Bool) (key : E → K) where
   lookup (y ∷ ys) k = if same before (key y) k then Some y else lookup ys k
 
   -- the map with the element x, in place of one of its key if there is one
-  abbrev pub including : List E → E → List E
-  including [] x = x ∷ []
-  including (y ∷ ys) x =
-      if before (key y) (key x) then y ∷ including ys x else (if before (key x) (key y) then x ∷ y ∷ ys else x ∷ ys)
+  abbrev pub with_element : List E → E → List E
+  with_element [] x = x ∷ []
+  with_element (y ∷ ys) x =
+      if before (key y) (key x) then y ∷ with_element ys x else (if before (key x) (key y) then x ∷ y ∷ ys else x ∷ ys)
 
   -- the map with no element of the key k
-  abbrev pub excluding : List E → K → List E
-  excluding [] k = []
-  excluding (y ∷ ys) k =
-      if before (key y) k then y ∷ excluding ys k else (if before k (key y) then y ∷ ys else ys)
+  abbrev pub without_element : List E → K → List E
+  without_element [] k = []
+  without_element (y ∷ ys) k =
+      if before (key y) k then y ∷ without_element ys k else (if before k (key y) then y ∷ ys else ys)
 
   -- the first key that is not before k
   abbrev pub ceiling : List E → K → Option K
@@ -36,14 +36,14 @@ module _ {E K : Type 0} (before : K → K → Bool) (key : E → K) where
   ceiling (y ∷ ys) k = if before (key y) k then ceiling ys k else Some (key y)
 
   -- the map of elements in any order, where the first of a key counts
-  abbrev pub gathered : List E → List E
-  gathered [] = []
-  gathered (x ∷ xs) = including (gathered xs) x
+  abbrev pub map_from : List E → List E
+  map_from [] = []
+  map_from (x ∷ xs) = with_element (map_from xs) x
 
   -- no two elements have one key
-  abbrev pub apart : List E → Bool
-  apart [] = true
-  apart (x ∷ xs) = not (is_some (lookup xs (key x))) && apart xs
+  abbrev pub has_distinct_keys : List E → Bool
+  has_distinct_keys [] = true
+  has_distinct_keys (x ∷ xs) = not (is_some (lookup xs (key x))) && has_distinct_keys xs
 
 -- the lower of a key and another, if there is one
 abbrev pub lower : {K : Type 0} → (K → K → Bool) → K → Option K → Option K

@@ -4,7 +4,7 @@ use Rattle.std.specs.List.{insert, remove}
 use Rattle.std.specs.Option.{option_map}
 use Rattle.std.proofs.lemmas.Option.{slice_get-get_or, slice_get_cases}
 use Rattle.maps.specs.Orders.{Lawful}
-use Rattle.maps.specs.Maps.{ascending, lookup, ceiling, including}
+use Rattle.maps.specs.Maps.{ascending, lookup, ceiling, with_element}
 use Rattle.maps.specs.Places.{AllBelow, NoneBelow, StandsAt, BelongsAt}
 use Rattle.maps.proofs.Maps.{ascending_including, ascending_excluding}
 use Rattle.maps.proofs.Sorted.{hit_lookup, miss_lookup, hit_including, miss_including, hit_excluding, miss_excluding, ceiling_here, ceiling_none}
@@ -46,7 +46,7 @@ module _ {E K : Type 0} {before : K → K → Bool} {key : E → K} (lawful : La
       absent : BelongsAt before key xs (key x) i
       absent = subst (λ (c : K). BelongsAt before key xs c i) of h
 
-      either : (s : Result T F) → OnOk s (ys ≡ insert xs i x) → OnErr s (ys ≡ xs) → ys ≡ cond (is_ok s) (including before key xs x) xs
+      either : (s : Result T F) → OnOk s (ys ≡ insert xs i x) → OnErr s (ys ≡ xs) → ys ≡ cond (is_ok s) (with_element before key xs x) xs
       either (Ok t) p q = p ∙ sym (miss_including before key lawful xs i x absent)
       either (Err e) p q = q
 
@@ -63,7 +63,7 @@ module _ {E K : Type 0} {before : K → K → Bool} {key : E → K} (lawful : La
   pub put_rises : (xs ys : List E) (n : ℕ) (x : E) (r : Bool) → Put before key xs ys n x r → ascending before key xs ≡ true → ascending before key ys ≡ true
   put_rises xs ys n x r h up = ap (ascending before key) h.gives ∙ either r
     where
-      either : (b : Bool) → ascending before key (cond b (including before key xs x) xs) ≡ true
+      either : (b : Bool) → ascending before key (cond b (with_element before key xs x) xs) ≡ true
       either true = ascending_including before key lawful xs x up
       either false = up
 

@@ -8,7 +8,7 @@ use Rattle.std.proofs.lemmas.List.{get_or_default}
 use Rattle.std.proofs.lemmas.List.Sums.{sum_by-cons}
 use Rattle.std.proofs.lemmas.List.Sorted.{IsPermutation-sym, Contains-permutation, sum_by-IsPermutation, sorted_far}
 use Rattle.maps.specs.Orders.{Lawful, same}
-use Rattle.maps.specs.Maps.{after, ascending, lookup, gathered, apart}
+use Rattle.maps.specs.Maps.{after, ascending, lookup, map_from, has_distinct_keys}
 use Rattle.maps.proofs.Maps.{some_none, some_is, same_level, same_is, same_maps, asymmetric, ascending_gathered, lookup_gathered}
 use Rattle.maps.proofs.Heaped.{none_passed}
 use Rattle.maps.proofs.Sorted.{ascends_whole, hit_lookup}
@@ -41,10 +41,10 @@ module _ {E K : Type 0} (before : K → K → Bool) (key : E → K) (lawful : La
     | inr f ↦ sum_by-cons (one k) x xs ∙ rw f (let rest : lookup before key xs k ≡ None = rw f at h in let z = none_of k xs rest in omega arith)
   ]
 
-  one_of : (k : K) (xs : List E) → apart before key xs ≡ true → sum_by (one k) xs ≤ 1
+  one_of : (k : K) (xs : List E) → has_distinct_keys before key xs ≡ true → sum_by (one k) xs ≤ 1
   one_of k [] a = omega arith
   one_of k (x ∷ xs) a =
-      let p = and_parts (not (is_some (lookup before key xs (key x)))) (apart before key xs) a in
+      let p = and_parts (not (is_some (lookup before key xs (key x)))) (has_distinct_keys before key xs) a in
       let e = sum_by-cons (one k) x xs in
       elim (cases_Bool (same before (key x) k)) [
         | inl t ↦
@@ -116,8 +116,8 @@ module _ {E K : Type 0} (before : K → K → Bool) (key : E → K) (lawful : La
           absurd (is_there xs y (Contains-permutation ys xs y (IsPermutation-sym xs ys p) r.0) (ap (lookup before key xs) r.1 ∙ e))
       by None None e f = f ∙ sym e
 
-  pub sorted_gathered : (xs ys : List E) → apart before key xs ≡ true → IsPermutation xs ys → IsSortedBy (λ x y. before (key x) (key y)) ys → ys ≡ gathered before key xs
+  pub sorted_gathered : (xs ys : List E) → has_distinct_keys before key xs ≡ true → IsPermutation xs ys → IsSortedBy (λ x y. before (key x) (key y)) ys → ys ≡ map_from before key xs
   sorted_gathered xs ys a p s =
       let up : ascending before key ys ≡ true = rises ys (λ k. let o = one_of k xs a in let e = sum_by-IsPermutation (one k) xs ys p in omega arith) (sorted_far (λ x y. before (key x) (key y)) weak_order ys s) in
-      same_maps before key lawful ys (gathered before key xs) up (ascending_gathered before key lawful xs)
+      same_maps before key lawful ys (map_from before key xs) up (ascending_gathered before key lawful xs)
       (λ k. same_found xs ys p up k ∙ sym (lookup_gathered before key lawful xs k))

@@ -1,7 +1,7 @@
 // Elements put into the order of their keys.
 ghost use Rattle.std.specs.Prelude.{◌≡◌, ◌≤◌, length, take, drop, IsTrue};
 ghost use Rattle.std.specs.Ordering.{is_lt};
-ghost use Rattle.maps.specs.Maps.{apart, gathered};
+ghost use Rattle.maps.specs.Maps.{has_distinct_keys, map_from};
 ghost use Rattle.ordered.specs.Tables.{items, RestKept};
 
 use crate::keys::{KeyOrder, Keyed};
@@ -22,8 +22,8 @@ fn compare<E: Keyed>(here: &E, there: &E) -> Ordering
 // Orders the first elements, so many as are counted.
 fn sort_first<E: Keyed>(slots: &mut [E], len: usize)
     requires { len ≤ length slots.old }
-    ensures items { IsTrue (apart E.Key.before E.keyed (take len slots.old))
-        → take len slots.new ≡ gathered E.Key.before E.keyed (take len slots.old) }
+    ensures items { IsTrue (has_distinct_keys E.Key.before E.keyed (take len slots.old))
+        → take len slots.new ≡ map_from E.Key.before E.keyed (take len slots.old) }
     ensures rest { drop len slots.new ≡ drop len slots.old }
     ensures long { length slots.new ≡ length slots.old }
 {
@@ -33,8 +33,8 @@ fn sort_first<E: Keyed>(slots: &mut [E], len: usize)
 impl<E: Keyed> Slots<'_, E> {
     /// Orders the elements that are held, no two of which have one key: they then stand as the map that they are.
     pub fn sort(&mut self)
-        ensures items { IsTrue (apart E.Key.before E.keyed (items self.old))
-            → items self.new ≡ gathered E.Key.before E.keyed (items self.old) }
+        ensures items { IsTrue (has_distinct_keys E.Key.before E.keyed (items self.old))
+            → items self.new ≡ map_from E.Key.before E.keyed (items self.old) }
         ensures len { self.new.len ≡ self.old.len }
         ensures rest { RestKept self.old self.new }
     {

@@ -13,8 +13,8 @@ use Rattle.overlay.specs.declared.overlay.Overlay.{Overlay}
 
 -- a transaction done to a map: N and R set the key's schedule, D removes the key
 abbrev pub done_to : List Record → Change → List Record
-done_to m (New plain) = with_schedule m plain
-done_to m (Revise plain) = with_schedule m plain
+done_to m (New fields) = with_schedule m fields
+done_to m (Revise fields) = with_schedule m fields
 done_to m (Delete key) = without_key m key
 
 -- transactions done to a map in order
@@ -35,8 +35,8 @@ overlay_of meaning o = with_done (meaning o.store) (pending_in o.pending)
 
 -- the schedule that a transaction leaves under its key
 abbrev pub leaves : Change → Option Record
-leaves (New plain) = Some plain
-leaves (Revise plain) = Some plain
+leaves (New fields) = Some fields
+leaves (Revise fields) = Some fields
 leaves (Delete key) = None
 
 -- whether a transaction is on a key

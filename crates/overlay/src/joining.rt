@@ -1,6 +1,6 @@
 // How transactions become pending, and cease to be.
 ghost use Rattle.std.specs.Prelude.{◌≡◌, [], ◌∷◌, ◌++◌, ◌<◌, ◌≤◌, take, length};
-ghost use Rattle.schedule.specs.Transactions.{plain_of};
+ghost use Rattle.schedule.specs.Transactions.{change_of};
 ghost use Rattle.overlay.specs.Overlays.{pending_in};
 
 use crate::pending::{Changes, Pending};
@@ -45,7 +45,7 @@ impl Pending {
     /// A transaction joins after the others, of which there have to be fewer than 32.
     pub fn join(&mut self, transaction: Transaction)
         requires { length (pending_in self.old) < 32 }
-        ensures { pending_in self.new ≡ pending_in self.old ++ plain_of transaction ∷ [] }
+        ensures { pending_in self.new ≡ pending_in self.old ++ change_of transaction ∷ [] }
     {
         let place = self.len;
         self.slots[place] = transaction.into();

@@ -25,10 +25,10 @@ pub(crate) fn sets(change: &Change) -> bool
 pub(crate) fn schedule_left(change: &Change) -> Option<Schedule>
     requires lawful { is_lawful change.now ≡ true }
     ensures { MatchOption result (leaves change.now ≡ None)
-        (λ s. leaves change.now ≡ Some s.plain) }
+        (λ s. leaves change.now ≡ Some s.fields) }
 {
     match change {
-        Change::New(plain) | Change::Revise(plain) => Schedule::try_from(*plain).ok(),
+        Change::New(fields) | Change::Revise(fields) => Schedule::try_from(*fields).ok(),
         Change::Delete(_) => None,
     }
 }
@@ -54,9 +54,9 @@ pub(crate) fn find_after<T: Timetable>(
 ) -> bool
     ensures found { result
         ≡ has_key (done_all (T.meaning timetable.old).map changes.now.list.now) key }
-    ensures copied { place.new.plain ≡ unwrap_or
+    ensures copied { place.new.fields ≡ unwrap_or
         (schedule_of (done_all (T.meaning timetable.old).map changes.now.list.now) key)
-        place.old.plain }
+        place.old.fields }
     ensures left { OnFalse result (place.new ≡ place.old) }
     ensures same { timetable.new ≡ timetable.old }
 {

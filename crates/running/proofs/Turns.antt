@@ -91,9 +91,9 @@ module _ (m : List Record) (uid day : ℕ) (probe key nxt : Key) (h : Record) (b
 
 -- at the end, what was kept is in force
 pub ended : (m : List Record) (uid day : ℕ) (probe : Key) (best : Option Schedule) → Walked m uid day probe (record_in best) → ((s : Record) → Candidate m uid day s → key_before (key_of s) probe ≡ true)
-    → MatchOption best ((s : Record) → Candidate m uid day s → ⊥) (λ s. InForce m uid day s.plain)
+    → MatchOption best ((s : Record) → Candidate m uid day s → ⊥) (λ s. InForce m uid day s.fields)
 ended m uid day probe None w all = λ s c. w.none refl s c (all s c)
-ended m uid day probe (Some b) w all = record { candidate = w.has b.plain refl; first = λ s c. w.first b.plain refl s c (all s c) }
+ended m uid day probe (Some b) w all = record { candidate = w.has b.fields refl; first = λ s c. w.first b.fields refl s c (all s c) }
 
 -- the next train's keys come after all of this one
 other_train : (probe key k : Key) (uid : ℕ) → probe.uid ≡ uid → (key.uid ≡ uid → ⊥) → k.uid ≡ uid → key_before key probe ≡ false → key_before k key ≡ true

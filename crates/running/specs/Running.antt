@@ -35,4 +35,4 @@ covering r day = nat_le r.key.from day && (nat_le day r.to && slice_index_or r.d
 -- the answer is the schedule in force, or none where there is no candidate
 abbrev pub IsForceOf : List Record → ℕ → ℕ → Option Schedule → Type 0
 IsForceOf m uid day answer =
-    MatchOption answer ((s : Record) → Candidate m uid day s → ⊥) (λ s. InForce m uid day s.plain)
+    MatchOption answer ((s : Record) → Candidate m uid day s → ⊥) (λ s. InForce m uid day s.fields)

@@ -21,7 +21,7 @@ takes here day (Some best) = covering here day && outranking here best
 
 -- the record of a schedule, if there is one
 abbrev pub record_in : Option Schedule → Option Record
-record_in o = option_map (λ (s : Schedule). s.plain) o
+record_in o = option_map (λ (s : Schedule). s.fields) o
 
 -- the least key that a train can have
 abbrev pub first_of : ℕ → Key

@@ -13,11 +13,11 @@ use schedule::schedule::Schedule;
 use timetable::Timetable;
 
 // Whether a schedule covers a day and has its weekday.
-fn covers(plain: &Record, day: u16) -> bool
-    ensures { result ≡ covering plain.now day }
+fn covers(fields: &Record, day: u16) -> bool
+    ensures { result ≡ covering fields.now day }
 {
     let weekday = (day as usize + 4) % 7;
-    plain.key.from <= day && day <= plain.to && plain.days[weekday]
+    fields.key.from <= day && day <= fields.to && fields.days[weekday]
 }
 
 // Whether a schedule outranks another.

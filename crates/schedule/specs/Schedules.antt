@@ -4,4 +4,4 @@ use Rattle.schedule.specs.declared.schedule.Schedule.{Schedule}
 
 -- the record of a schedule
 abbrev pub record_of : Schedule → Record
-record_of schedule = schedule.plain
+record_of schedule = schedule.fields

@@ -9,20 +9,20 @@ use Rattle.schedule.specs.Records.{is_schedule}
 
 -- the key of the schedule that a transaction changes
 abbrev pub changed_key : Change → Key
-changed_key (New plain) = plain.key
-changed_key (Revise plain) = plain.key
+changed_key (New fields) = fields.key
+changed_key (Revise fields) = fields.key
 changed_key (Delete key) = key
 
 -- a transaction as it lies in memory
-abbrev pub plain_of : Transaction → Change
-plain_of (IsNew schedule) = New schedule.plain
-plain_of (IsRevised schedule) = Revise schedule.plain
-plain_of (IsDeleted key) = Delete key
+abbrev pub change_of : Transaction → Change
+change_of (IsNew schedule) = New schedule.fields
+change_of (IsRevised schedule) = Revise schedule.fields
+change_of (IsDeleted key) = Delete key
 
 -- a record that a transaction brings is a schedule's
 abbrev pub is_lawful : Change → Bool
-is_lawful (New plain) = is_schedule plain
-is_lawful (Revise plain) = is_schedule plain
+is_lawful (New fields) = is_schedule fields
+is_lawful (Revise fields) = is_schedule fields
 is_lawful _ = true
 
 -- every transaction of a list is lawful

@@ -4,7 +4,7 @@ ghost use Rattle.cif.specs.Refusals.{uppermost, fault_of};
 ghost use Rattle.schedule.specs.Records.{in_range};
 ghost use Rattle.schedule.specs.Schedules.{record_of};
 ghost use Rattle.schedule.specs.Building.{begun_with, with_operator, with_destination, is_kept, with_call, call_lines, bringing, Brings, bringing_lines};
-ghost use Rattle.schedule.specs.Transactions.{plain_of};
+ghost use Rattle.schedule.specs.Transactions.{change_of};
 
 use crate::check::visits_of;
 use crate::key::Key;
@@ -29,36 +29,36 @@ impl Schedule {
         ensures { let begun = begun_with key to days train in
             MatchOption result (IsFalse (in_range begun)) (λ s. record_of s ≡ begun) }
     {
-        let plain = Record {
+        let fields = Record {
             key,
             to,
             days,
             train,
             ..Schedule::blank().into()
         };
-        Schedule::try_from(plain).ok()
+        Schedule::try_from(fields).ok()
     }
 
     /// The schedule with an operator; a cancellation stays bare.
     pub fn with_operator(self, operator: [u8; 2]) -> Schedule
         ensures { record_of result ≡ with_operator (record_of self) operator }
     {
-        let mut plain = self.plain;
-        if plain.key.stp != Stp::Cancellation {
-            plain.operator = operator;
+        let mut fields = self.fields;
+        if fields.key.stp != Stp::Cancellation {
+            fields.operator = operator;
         }
-        Schedule { plain }
+        Schedule { fields }
     }
 
     /// The schedule with a destination; a cancellation stays bare.
     pub fn with_destination(self, destination: [u8; 7]) -> Schedule
         ensures { record_of result ≡ with_destination (record_of self) destination }
     {
-        let mut plain = self.plain;
-        if plain.key.stp != Stp::Cancellation {
-            plain.destination = destination;
+        let mut fields = self.fields;
+        if fields.key.stp != Stp::Cancellation {
+            fields.destination = destination;
         }
-        Schedule { plain }
+        Schedule { fields }
     }
 
     /// The schedule with a location's call after those that it has, if the location is a kept call. Refused are a 49th
@@ -67,20 +67,20 @@ impl Schedule {
         ensures made { IfOk result (λ s. record_of s ≡ with_call (record_of self) location) }
         ensures told { fault_of result ≡ uppermost (call_lines (record_of self) location) }
     {
-        let mut plain = self.plain;
-        if plain.key.stp == Stp::Cancellation || !is_kept(&location) {
+        let mut fields = self.fields;
+        if fields.key.stp == Stp::Cancellation || !is_kept(&location) {
             return Ok(self);
         }
-        let count = plain.count as usize;
+        let count = fields.count as usize;
         if count >= CALLS {
             return Err(Refusal::TooManyCalls.at(3));
         }
-        if visits_of(&plain.calls[..count], &location.tiploc) >= 2 {
+        if visits_of(&fields.calls[..count], &location.tiploc) >= 2 {
             return Err(Refusal::TooManyVisits.at(3));
         }
-        plain.calls[count] = location;
-        plain.count += 1;
-        Ok(Schedule { plain })
+        fields.calls[count] = location;
+        fields.count += 1;
+        Ok(Schedule { fields })
     }
 }
 
@@ -99,14 +99,14 @@ impl Transaction {
 
     /// The transaction with an operator in the schedule that it brings.
     pub fn with_operator(self, operator: [u8; 2]) -> Transaction
-        ensures { plain_of result ≡ bringing (λ s. with_operator s operator) (plain_of self) }
+        ensures { change_of result ≡ bringing (λ s. with_operator s operator) (change_of self) }
     {
         self.bringing(|schedule| schedule.with_operator(operator))
     }
 
     /// The transaction with a destination in the schedule that it brings.
     pub fn with_destination(self, destination: [u8; 7]) -> Transaction
-        ensures { plain_of result ≡ bringing (λ s. with_destination s destination) (plain_of self) }
+        ensures { change_of result ≡ bringing (λ s. with_destination s destination) (change_of self) }
     {
         self.bringing(|schedule| schedule.with_destination(destination))
     }
@@ -115,8 +115,8 @@ impl Transaction {
     /// are a 49th kept call, and a third kept call at one TIPLOC.
     pub fn with_call(self, location: Location) -> Result<Transaction, ColumnFault>
         ensures made { IfOk result
-            (λ t. plain_of t ≡ bringing (λ s. with_call s location) (plain_of self)) }
-        ensures told { fault_of result ≡ uppermost (bringing_lines (plain_of self) location) }
+            (λ t. change_of t ≡ bringing (λ s. with_call s location) (change_of self)) }
+        ensures told { fault_of result ≡ uppermost (bringing_lines (change_of self) location) }
     {
         match self {
             Transaction::New(schedule) => Ok(Transaction::New(schedule.with_call(location)?)),

@@ -93,13 +93,13 @@ impl Record {
 impl TryFrom<Record> for Schedule {
     type Error = NotASchedule;
 
-    ghost try_from_gives = { λ plain r.
-        MatchResult r (λ s. (record_of s ≡ plain) × IsTrue (is_schedule plain))
-        (λ _. IsFalse (is_schedule plain)) };
+    ghost try_from_gives = { λ fields r.
+        MatchResult r (λ s. (record_of s ≡ fields) × IsTrue (is_schedule fields))
+        (λ _. IsFalse (is_schedule fields)) };
 
-    fn try_from(plain: Record) -> Result<Schedule, NotASchedule> {
-        if plain.is_schedule() {
-            Ok(Schedule { plain })
+    fn try_from(fields: Record) -> Result<Schedule, NotASchedule> {
+        if fields.is_schedule() {
+            Ok(Schedule { fields })
         } else {
             Err(NotASchedule)
         }
@@ -111,6 +111,6 @@ impl Schedule {
     pub fn key(&self) -> Key
         ensures { result ≡ (record_of self.now).key }
     {
-        self.plain.key
+        self.fields.key
     }
 }

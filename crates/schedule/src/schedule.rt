@@ -13,8 +13,8 @@ use std::fmt;
 /// slot. docs/schedules.md has the rules.
 #[derive(Clone, Copy, Debug, PartialEq, Eq)]
 pub struct Schedule {
-    pub(crate) plain: Record,
-    ghost valid: { IsTrue (is_schedule plain) },
+    pub(crate) fields: Record,
+    ghost valid: { IsTrue (is_schedule fields) },
 }
 
 impl Schedule {
@@ -32,7 +32,7 @@ impl Schedule {
             departure: None,
             platform: *b"   ",
         };
-        let plain = Record {
+        let fields = Record {
             key: Key {
                 uid: 0,
                 from: 0,
@@ -46,26 +46,26 @@ impl Schedule {
             calls: [filler; CALLS],
             count: 0,
         };
-        Schedule { plain }
+        Schedule { fields }
     }
 
     /// The record that holds the schedule, where it lies.
     pub fn record(&self) -> &Record
         ensures { result.now ≡ record_of self.now }
     {
-        &self.plain
+        &self.fields
     }
 
     /// Becomes the schedule that a record holds, if it holds one, and says whether it does.
-    pub fn set(&mut self, plain: &Record) -> bool
-        ensures told { result ≡ is_schedule plain.now }
-        ensures set { OnTrue result (record_of self.new ≡ plain.now) }
+    pub fn set(&mut self, fields: &Record) -> bool
+        ensures told { result ≡ is_schedule fields.now }
+        ensures set { OnTrue result (record_of self.new ≡ fields.now) }
         ensures unchanged { OnFalse result (self.new ≡ self.old) }
     {
-        if !plain.is_schedule() {
+        if !fields.is_schedule() {
             return false;
         }
-        self.plain = *plain;
+        self.fields = *fields;
         true
     }
 }
@@ -77,7 +77,7 @@ impl From<Schedule> for Record {
     ghost from_gives = { λ s r. r ≡ record_of s };
 
     fn from(schedule: Schedule) -> Record {
-        schedule.plain
+        schedule.fields
     }
 }
 

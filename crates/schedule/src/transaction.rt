@@ -1,6 +1,6 @@
 // Transactions.
 ghost use Rattle.std.specs.Prelude.{◌≡◌, IsTrue};
-ghost use Rattle.schedule.specs.Transactions.{changed_key, is_lawful, plain_of};
+ghost use Rattle.schedule.specs.Transactions.{changed_key, is_lawful, change_of};
 
 use crate::key::Key;
 use crate::record::Record;
@@ -30,7 +30,7 @@ pub enum Change {
 
 // A transaction as it lies in memory.
 impl From<Transaction> for Change {
-    ghost from_gives = { λ t c. (c ≡ plain_of t) × IsTrue (is_lawful c) };
+    ghost from_gives = { λ t c. (c ≡ change_of t) × IsTrue (is_lawful c) };
 
     fn from(transaction: Transaction) -> Change {
         match transaction {
@@ -47,8 +47,8 @@ impl Change {
         ensures { result ≡ changed_key self.now }
     {
         match self {
-            Change::New(plain) => plain.key,
-            Change::Revise(plain) => plain.key,
+            Change::New(fields) => fields.key,
+            Change::Revise(fields) => fields.key,
             Change::Delete(key) => *key,
         }
     }

@@ -78,7 +78,7 @@ impl<T: Mapped<Record>> Timetable for SlotStore<T> {
 
     fn find(&mut self, key: Key, place: &mut Schedule) -> bool {
         match self.table.find(key) {
-            Some(plain) => place.set(&plain),
+            Some(fields) => place.set(&fields),
             None => false,
         }
     }

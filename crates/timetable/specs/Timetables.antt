@@ -1,6 +1,6 @@
 -- A timetable: a finite map from keys to schedules, each under its own key, as the list of their records in the order of the keys.
 use Rattle.std.specs.Prelude.{◌≡◌, ℕ, ◌≤◌, Bool, true, List, length, Option, ◌==◌}
-use Rattle.maps.specs.Maps.{ascending, lookup, including, excluding, ceiling}
+use Rattle.maps.specs.Maps.{ascending, lookup, with_element, without_element, ceiling}
 use Rattle.ordered.specs.Tables.{Put, Removed}
 use Rattle.schedule.specs.declared.key.Key.{Key}
 use Rattle.schedule.specs.declared.record.Record.{Record}
@@ -13,11 +13,11 @@ schedule_of m k = lookup key_before key_of m k
 
 -- the map with a schedule set under its key
 abbrev pub with_schedule : List Record → Record → List Record
-with_schedule m r = including key_before key_of m r
+with_schedule m r = with_element key_before key_of m r
 
 -- the map with a key removed
 abbrev pub without_key : List Record → Key → List Record
-without_key m k = excluding key_before key_of m k
+without_key m k = without_element key_before key_of m k
 
 -- the least key that is not before a probe
 abbrev pub not_before : List Record → Key → Option Key

@@ -23,12 +23,12 @@ pub fn not_before_is_least()
 {}
 
 // Puts a record's schedule, if it is one, into a store of any make.
-fn put_one<S: Store>(store: &mut S, plain: &Record) -> Result<(), Full>
+fn put_one<S: Store>(store: &mut S, fields: &Record) -> Result<(), Full>
     ensures map { OnOk result
-        ((S.meaning store.new).map ≡ set_if_schedule (S.meaning store.old).map plain.now) }
+        ((S.meaning store.new).map ≡ set_if_schedule (S.meaning store.old).map fields.now) }
     ensures capacity { (S.meaning store.new).capacity ≡ (S.meaning store.old).capacity }
 {
-    match Schedule::try_from(*plain) {
+    match Schedule::try_from(*fields) {
         Ok(schedule) => store.put(schedule),
         Err(_) => Ok(()),
     }
@@ -40,8 +40,8 @@ pub fn put_all<S: Store>(store: &mut S, records: &[Record]) -> Result<(), Full>
         ((S.meaning store.new).map ≡ set_all (S.meaning store.old).map records.now) }
     ensures capacity { (S.meaning store.new).capacity ≡ (S.meaning store.old).capacity }
 {
-    for plain in records {
-        put_one(store, plain)?;
+    for fields in records {
+        put_one(store, fields)?;
     }
     Ok(())
 }

@@ -21,6 +21,6 @@ record_text r = key_text r.key ++ codes " to day " ++ decimal r.to
 
 -- a transaction is told by what it does, and by its schedule or key
 abbrev pub change_text : Change → List ℕ
-change_text (New plain) = codes "new " ++ record_text plain
-change_text (Revise plain) = codes "revised " ++ record_text plain
+change_text (New fields) = codes "new " ++ record_text fields
+change_text (Revise fields) = codes "revised " ++ record_text fields
 change_text (Delete key) = codes "deleted " ++ key_text key

@@ -6,15 +6,15 @@ use Rattle.forms.specs.declared.letters.Coverage.{Coverage}
 use Rattle.forms.specs.declared.letters.Coverage.TheVariants.{Full, Update}
 use Rattle.cif.specs.Rows.{letters_of}
 use Rattle.cif.specs.declared.content.BasicSchedule.{BasicSchedule}
-use Rattle.cif.specs.declared.content.Change.{Change}
-use Rattle.cif.specs.declared.content.Change.TheVariants.{New, Revise, Delete}
+use Rattle.cif.specs.declared.content.Action.{Action}
+use Rattle.cif.specs.declared.content.Action.TheVariants.{New, Revise, Delete}
 use Rattle.cif.specs.declared.content.Content.{Content}
 use Rattle.cif.specs.declared.content.Content.TheVariants.{Header as HeaderRow, Schedule as ScheduleRow, Operator, Origin, Intermediate, Terminus, Unread}
 use Rattle.cif.specs.declared.content.Header.{Header}
 use Rattle.cif.specs.declared.content.Location.{Location}
 use Rattle.cif.specs.declared.content.Running.{Running}
 use Rattle.cif.specs.declared.identity.Identity.{Identity}
-use Rattle.cif.specs.declared.identity.Identity.TheVariants.{ChangeEnRoute, LocationInsert, LocationAmend, LocationDelete, Association}
+use Rattle.cif.specs.declared.identity.Identity.TheVariants.{ChangeEnRoute, TiplocInsert, TiplocAmend, TiplocDelete, Association}
 use Rattle.wording.specs.Texts.{text_of, uid_text, clock_text, weekdays, days_text}
 
 -- a train is told by its UID and the UID's number
@@ -49,7 +49,7 @@ kind_text Overlay = codes "overlay"
 kind_text Permanent = codes "permanent"
 
 -- the word for what is done with a schedule
-abbrev pub verb_text : Change → List ℕ
+abbrev pub verb_text : Action → List ℕ
 verb_text (New running) = codes "new"
 verb_text (Revise running) = codes "revised"
 verb_text Delete = codes "deleted"
@@ -60,7 +60,7 @@ running_text r = codes " to " ++ day_text r.to ++ codes ", runs " ++ days_text r
     ++ codes ", identity \"" ++ text_of r.train ++ codes "\""
 
 -- how the train of a schedule runs, where it is not deleted
-abbrev pub runs_text : Change → List ℕ
+abbrev pub runs_text : Action → List ℕ
 runs_text (New running) = running_text running
 runs_text (Revise running) = running_text running
 runs_text Delete = []
@@ -68,8 +68,8 @@ runs_text Delete = []
 -- a schedule is told by what is done with it, its train, its STP letter, its first day, and how the
 -- train runs
 abbrev pub schedule_text : BasicSchedule → List ℕ
-schedule_text s = verb_text s.change ++ codes " schedule: train " ++ train_text s.uid ++ codes ", "
-    ++ kind_text s.stp ++ codes ", from " ++ day_text s.from ++ runs_text s.change
+schedule_text s = verb_text s.action ++ codes " schedule: train " ++ train_text s.uid ++ codes ", "
+    ++ kind_text s.stp ++ codes ", from " ++ day_text s.from ++ runs_text s.action
 
 -- a time follows a comma, where there is one to tell
 abbrev pub told_text : Bool → List ℕ → List ℕ
@@ -93,9 +93,9 @@ location_text role at arrives departs = role ++ codes " \"" ++ text_of at.tiploc
 -- the words for each row of which no field is read, the last those of ZZ
 abbrev pub unread_text : Identity → List ℕ
 unread_text ChangeEnRoute = codes "change on the way"
-unread_text LocationInsert = codes "location inserted"
-unread_text LocationAmend = codes "location amended"
-unread_text LocationDelete = codes "location deleted"
+unread_text TiplocInsert = codes "location inserted"
+unread_text TiplocAmend = codes "location amended"
+unread_text TiplocDelete = codes "location deleted"
 unread_text Association = codes "association"
 unread_text _ = codes "end of the extract"
 

@@ -59,12 +59,12 @@ impl Display for ChangeWords<'_> {
 
     fn fmt<W: fmt::Write>(&self, f: &mut Formatter<W>) -> fmt::Result {
         match self.0 {
-            Change::New(plain) => {
-                let words = RecordWords(plain);
+            Change::New(fields) => {
+                let words = RecordWords(fields);
                 write!(f, "new {words}")
             }
-            Change::Revise(plain) => {
-                let words = RecordWords(plain);
+            Change::Revise(fields) => {
+                let words = RecordWords(fields);
                 write!(f, "revised {words}")
             }
             Change::Delete(key) => {

@@ -4,7 +4,7 @@ ghost use Rattle.std.specs.Fmt.{DisplaysOnOk};
 ghost use Rattle.wording.specs.Rows.{train_text, day_text, time_text, coverage_text, header_text, kind_text, verb_text, schedule_text, running_text, told_text, location_text, unread_text, content_text};
 
 use crate::words::{DaysRun, Text, Uid, WEEKDAYS};
-use cif::content::{BasicSchedule, Change, Content, Header, Location, Running};
+use cif::content::{Action, BasicSchedule, Content, Header, Location, Running};
 use cif::identity::Identity;
 use forms::letters::{Coverage, Stp};
 use std::fmt;
@@ -84,13 +84,13 @@ fn coverage(coverage: Coverage) -> &'static str
 }
 
 // What is done with a schedule.
-fn verb(change: &Change) -> &'static str
-    ensures { result.now ≡ verb_text change.now }
+fn verb(action: &Action) -> &'static str
+    ensures { result.now ≡ verb_text action.now }
 {
-    match change {
-        Change::New(_) => "new",
-        Change::Revise(_) => "revised",
-        Change::Delete => "deleted",
+    match action {
+        Action::New(_) => "new",
+        Action::Revise(_) => "revised",
+        Action::Delete => "deleted",
     }
 }
 
@@ -120,14 +120,14 @@ impl Display for ScheduleWords<'_> {
     ghost output = { λ words. Some (schedule_text words.0.now) };
 
     fn fmt<W: fmt::Write>(&self, f: &mut Formatter<W>) -> fmt::Result {
-        let verb = verb(&self.0.change);
+        let verb = verb(&self.0.action);
         let train = Train(self.0.uid);
         let kind = kind(self.0.stp);
         let from = Day(self.0.from);
         write!(f, "{verb} schedule: train {train}, {kind}, from {from}")?;
-        match &self.0.change {
-            Change::New(running) | Change::Revise(running) => write_running(f, running),
-            Change::Delete => Ok(()),
+        match &self.0.action {
+            Action::New(running) | Action::Revise(running) => write_running(f, running),
+            Action::Delete => Ok(()),
         }
     }
 }
@@ -179,9 +179,9 @@ fn unread(identity: Identity) -> &'static str
 {
     match identity {
         Identity::ChangeEnRoute => "change on the way",
-        Identity::LocationInsert => "location inserted",
-        Identity::LocationAmend => "location amended",
-        Identity::LocationDelete => "location deleted",
+        Identity::TiplocInsert => "location inserted",
+        Identity::TiplocAmend => "location amended",
+        Identity::TiplocDelete => "location deleted",
         Identity::Association => "association",
         _ => "end of the extract",
     }

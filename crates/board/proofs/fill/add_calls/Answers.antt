@@ -11,7 +11,7 @@ loop-place-init c = (added_none _ _ _, refl, grown_none _)
 pub add_call-requires : goal.add_call-requires
 add_call-requires c = record {
   room = λ at. subst (λ (n : ℕ). length (items c.loop-place.lines) < n) (sym c.loop-place.invariant.1)
-      (room_for c.args.station.now c.args.plain.now c.loop-place.place (room c.args.lines.now) c.args.plain.now.count (items c.args.lines.now) (items c.loop-place.lines) c.loop-place.invariant.0 (omega arith) c.requires.room at);
+      (room_for c.args.station.now c.args.fields.now c.loop-place.place (room c.args.lines.now) c.args.fields.now.count (items c.args.lines.now) (items c.loop-place.lines) c.loop-place.invariant.0 (omega arith) c.requires.room at);
 }
 
 pub loop-place-preserved : goal.loop-place-preserved
@@ -23,7 +23,7 @@ loop-place-preserved c = (
 
 pub returns : goal.returns
 returns c = record {
-  added = (let e : c.loop-place.place ≡ c.args.plain.now.count = (let k = c.loop-place.auto.place-end in let t = c.loop-place-test.false in omega arith) in
-      subst (λ (n : ℕ). Added c.args.station.now c.args.plain.now n (items c.args.lines.now) (items c.loop-place.lines)) e c.loop-place.invariant.0);
+  added = (let e : c.loop-place.place ≡ c.args.fields.now.count = (let k = c.loop-place.auto.place-end in let t = c.loop-place-test.false in omega arith) in
+      subst (λ (n : ℕ). Added c.args.station.now c.args.fields.now n (items c.args.lines.now) (items c.loop-place.lines)) e c.loop-place.invariant.0);
   grown = c.loop-place.invariant.2;
 }

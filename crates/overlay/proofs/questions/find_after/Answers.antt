@@ -11,13 +11,13 @@ schedule_left-requires g c = record { lawful = lawful_last c.args.key c.args.cha
 pub returns-in-Some-schedule_left : goal.returns-in-Some-schedule_left
 returns-in-Some-schedule_left g c =
     let m = (g.T.Timetable.meaning c.args.timetable.now).map in
-    let e : schedule_of (done_all m c.args.changes.now.list.now) c.args.key ≡ Some c.in-Some-schedule_left.schedule.plain =
+    let e : schedule_of (done_all m c.args.changes.now.list.now) c.args.key ≡ Some c.in-Some-schedule_left.schedule.fields =
     all_look m c.args.changes.now.list.now c.args.key (g.met.T.Timetable.is_map c.args.timetable.now) c.args.changes.now.lawful
     ∙ ap (λ o. after_last o (schedule_of m c.args.key)) (sym c.in-Some.ensures)
     ∙ c.in-Some-schedule_left.ensures in
     record {
       found = sym (ap is_some e);
-      copied = sym (ap (λ o. unwrap_or o c.args.place.now.plain) e);
+      copied = sym (ap (λ o. unwrap_or o c.args.place.now.fields) e);
       left = tt;
       same = refl;
     }
@@ -31,7 +31,7 @@ returns-in-None-schedule_left g c =
     ∙ c.in-None-schedule_left.ensures in
     record {
       found = sym (ap is_some e);
-      copied = sym (ap (λ o. unwrap_or o c.args.place.now.plain) e);
+      copied = sym (ap (λ o. unwrap_or o c.args.place.now.fields) e);
       left = refl;
       same = refl;
     }
@@ -44,7 +44,7 @@ returns-in-None g c =
     ∙ ap (λ o. after_last o (schedule_of m c.args.key)) (sym c.in-None.ensures) in
     record {
       found = c.find.ensures.found ∙ sym (ap is_some e);
-      copied = c.find.ensures.copied ∙ sym (ap (λ o. unwrap_or o c.args.place.now.plain) e);
+      copied = c.find.ensures.copied ∙ sym (ap (λ o. unwrap_or o c.args.place.now.fields) e);
       left = c.find.ensures.left;
       same = c.find.ensures.same;
     }

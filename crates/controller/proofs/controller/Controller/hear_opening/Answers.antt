@@ -5,31 +5,31 @@ use Rattle.cif.specs.Reading.{letters_in}
 use Rattle.overlay.specs.Overlays.{pending_in}
 use Rattle.extract.specs.Judging.{is_no_opening}
 use Rattle.controller.specs.Shown.{standing_in}
-use Rattle.controller.proofs.Heard.{beside_ok, beside_err, heard_ok, heard_err, told_err}
+use Rattle.controller.proofs.Heard.{with_place_ok, with_place_err, heard_ok, heard_err, told_err}
 use Rattle.controller.proofs.Called.{at_err}
 use Rattle.controller.proofs.Whole.{same_controller}
 use Rattle.controller.proofs.controller.Controller.hear_opening.Goals as goal
 
-pub returns-in_err-beside-clause-told : goal.returns-in_err-beside-clause-told
-returns-in_err-beside-clause-told g c =
+pub returns-in_err-with_place-clause-told : goal.returns-in_err-with_place-clause-told
+returns-in_err-with_place-clause-told g c =
     let s = standing_in g.S.Timetable.meaning c.args.self.now in
     let row = c.in_ok-row.row in
-    let made = MatchResult-at_ok _ _ row (beside_ok c.check.result _ row (sym c.in_ok-row.ensures)) c.check.ensures.made in
-    let refused = beside_err c.open.result c.letters-letters.result c.in_err-beside.field-0.0 (sym c.beside-2.ensures ∙ c.in_err-beside.was) in
-    let p = err_from_is_err_and c.from_residual-in_err-beside.result c.from_residual-in_err-beside.ensures.1 in
-    let letters : letters_in c.args.bytes.now ≡ c.in_err-beside.field-0.0.1 = sym (ap letters_in made.0) ∙ sym c.letters-letters.ensures ∙ refused.1 in
-    told_err _ _ c.from_residual-in_err-beside.result p.0 p.1 (heard_err is_no_opening s c.args.bytes.now row.bytes row.identity _ c.open.result made.0 made.1 (c.open.ensures.told (g.S.Timetable.meaning c.args.self.now.overlay.store) (pending_in c.args.self.now.overlay.pending)) c.in_err-beside.field-0.0.0 refused.0 ∙ ap Err (ap (λ l. in_row l c.in_err-beside.field-0.0.0) letters ∙ sym p.2))
+    let made = MatchResult-at_ok _ _ row (with_place_ok c.check.result _ row (sym c.in_ok-row.ensures)) c.check.ensures.made in
+    let refused = with_place_err c.open.result c.letters-letters.result c.in_err-with_place.field-0.0 (sym c.with_place-2.ensures ∙ c.in_err-with_place.was) in
+    let p = err_from_is_err_and c.from_residual-in_err-with_place.result c.from_residual-in_err-with_place.ensures.1 in
+    let letters : letters_in c.args.bytes.now ≡ c.in_err-with_place.field-0.0.1 = sym (ap letters_in made.0) ∙ sym c.letters-letters.ensures ∙ refused.1 in
+    told_err _ _ c.from_residual-in_err-with_place.result p.0 p.1 (heard_err is_no_opening s c.args.bytes.now row.bytes row.identity _ c.open.result made.0 made.1 (c.open.ensures.told (g.S.Timetable.meaning c.args.self.now.overlay.store) (pending_in c.args.self.now.overlay.pending)) c.in_err-with_place.field-0.0.0 refused.0 ∙ ap Err (ap (λ l. in_row l c.in_err-with_place.field-0.0.0) letters ∙ sym p.2))
 
-pub returns-in_err-beside-clause-unchanged : goal.returns-in_err-beside-clause-unchanged
-returns-in_err-beside-clause-unchanged g c =
-    let refused = beside_err c.open.result c.letters-letters.result c.in_err-beside.field-0.0 (sym c.beside-2.ensures ∙ c.in_err-beside.was) in
+pub returns-in_err-with_place-clause-unchanged : goal.returns-in_err-with_place-clause-unchanged
+returns-in_err-with_place-clause-unchanged g c =
+    let refused = with_place_err c.open.result c.letters-letters.result c.in_err-with_place.field-0.0 (sym c.with_place-2.ensures ∙ c.in_err-with_place.was) in
     let kept = at_err _ c.open.result c.open.ensures.unchanged (ap is_ok refused.0) in
-    let p = err_from_is_err_and c.from_residual-in_err-beside.result c.from_residual-in_err-beside.ensures.1 in
+    let p = err_from_is_err_and c.from_residual-in_err-with_place.result c.from_residual-in_err-with_place.ensures.1 in
     rw p.1 (same_controller c.args.self.now _ _ _ refl kept)
 
 pub returns-clause-told : goal.returns-clause-told
 returns-clause-told g c =
     let s = standing_in g.S.Timetable.meaning c.args.self.now in
     let row = c.in_ok-row.row in
-    let made = MatchResult-at_ok _ _ row (beside_ok c.check.result _ row (sym c.in_ok-row.ensures)) c.check.ensures.made in
-    heard_ok is_no_opening s c.args.bytes.now row.bytes row.identity _ c.open.result made.0 made.1 (c.open.ensures.told (g.S.Timetable.meaning c.args.self.now.overlay.store) (pending_in c.args.self.now.overlay.pending)) _ (beside_ok c.open.result c.letters-letters.result _ (sym c.beside-2.ensures ∙ c.in_ok-beside.was))
+    let made = MatchResult-at_ok _ _ row (with_place_ok c.check.result _ row (sym c.in_ok-row.ensures)) c.check.ensures.made in
+    heard_ok is_no_opening s c.args.bytes.now row.bytes row.identity _ c.open.result made.0 made.1 (c.open.ensures.told (g.S.Timetable.meaning c.args.self.now.overlay.store) (pending_in c.args.self.now.overlay.pending)) _ (with_place_ok c.open.result c.letters-letters.result _ (sym c.with_place-2.ensures ∙ c.in_ok-with_place.was))

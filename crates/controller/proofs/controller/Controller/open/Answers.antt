@@ -1,6 +1,6 @@
 use Rattle.std.proofs.Common.{◌≡◌, ◌+◌, [], ◌∷◌, ◌++◌, sym, refl, ap, ◌∙◌, subst}
 use Rattle.std.proofs.lemmas.Bool.{true≢false}
-use Rattle.cif.specs.Refusals.{raised}
+use Rattle.cif.specs.Refusals.{map_err}
 use Rattle.timetable.specs.Timetables.{Meaning}
 use Rattle.extract.specs.Judging.{is_no_opening}
 use Rattle.controller.specs.Faults.{in_extract}
@@ -21,7 +21,7 @@ returns-clause-told g c =
     let p = progress_in c.hear_opening.new.self in
     let r = c.hear_opening.result in
     let out = c.numbered.result in
-    let n : out ≡ raised (in_extract (c.args.self.now.extract.taken + 1)) r = c.numbered.ensures ∙ ap (λ k. raised (in_extract (k + 1)) r) c.rows_taken-number.ensures in
+    let n : out ≡ map_err (in_extract (c.args.self.now.extract.taken + 1)) r = c.numbered.ensures ∙ ap (λ k. map_err (in_extract (k + 1)) r) c.rows_taken-number.ensures in
     opening_refused s row p r out n c.hear_opening.ensures.told
 
 pub returns-clause-taken : goal.returns-clause-taken
@@ -31,7 +31,7 @@ returns-clause-taken g c =
     let p = progress_in c.hear_opening.new.self in
     let r = c.hear_opening.result in
     let out = c.numbered.result in
-    let n : out ≡ raised (in_extract (c.args.self.now.extract.taken + 1)) r = c.numbered.ensures ∙ ap (λ k. raised (in_extract (k + 1)) r) c.rows_taken-number.ensures in
+    let n : out ≡ map_err (in_extract (c.args.self.now.extract.taken + 1)) r = c.numbered.ensures ∙ ap (λ k. map_err (in_extract (k + 1)) r) c.rows_taken-number.ensures in
     on_ok _ out (λ ok. heard_after is_no_opening s row p (told_ok p _ r c.hear_opening.ensures.told (was_ok s row p r out n ok)))
 
 pub returns-clause-unchanged : goal.returns-clause-unchanged
@@ -40,7 +40,7 @@ returns-clause-unchanged g c =
     let p = progress_in c.hear_opening.new.self in
     let r = c.hear_opening.result in
     let out = c.numbered.result in
-    let n : out ≡ raised (in_extract (c.args.self.now.extract.taken + 1)) r = c.numbered.ensures ∙ ap (λ k. raised (in_extract (k + 1)) r) c.rows_taken-number.ensures in
+    let n : out ≡ map_err (in_extract (c.args.self.now.extract.taken + 1)) r = c.numbered.ensures ∙ ap (λ k. map_err (in_extract (k + 1)) r) c.rows_taken-number.ensures in
     on_err _ out (λ no. at_err _ r c.hear_opening.ensures.unchanged (sym (same_ok s c.args.row.now p r out n) ∙ no))
 
 pub returns-clause-obeys : goal.returns-clause-obeys
@@ -50,7 +50,7 @@ returns-clause-obeys g c b =
     let p = progress_in c.hear_opening.new.self in
     let r = c.hear_opening.result in
     let out = c.numbered.result in
-    let n : out ≡ raised (in_extract (c.args.self.now.extract.taken + 1)) r = c.numbered.ensures ∙ ap (λ k. raised (in_extract (k + 1)) r) c.rows_taken-number.ensures in
+    let n : out ≡ map_err (in_extract (c.args.self.now.extract.taken + 1)) r = c.numbered.ensures ∙ ap (λ k. map_err (in_extract (k + 1)) r) c.rows_taken-number.ensures in
     let before = state_in g.S.Timetable.meaning c.args.self.now b in
     let after = state_in g.S.Timetable.meaning c.hear_opening.new.self b in
     let rest = c.hear_opening.ensures.rest in

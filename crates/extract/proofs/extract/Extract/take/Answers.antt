@@ -1,7 +1,7 @@
 use Rattle.std.proofs.Common.{rules, false, Ok, length, sym, refl, ap, ◌∙◌}
 use Rattle.std.proofs.lemmas.Bool.{ltb-true}
 use Rattle.cif.specs.declared.content.Content.TheVariants.{Operator as OfOperator, Origin as OfOrigin, Intermediate as OfIntermediate, Terminus as OfTerminus, Unread}
-use Rattle.cif.specs.declared.identity.Identity.TheVariants.{BasicExtra, Origin, Intermediate, Terminus, ChangeEnRoute, LocationInsert, LocationAmend, LocationDelete, Association}
+use Rattle.cif.specs.declared.identity.Identity.TheVariants.{BasicExtra, Origin, Intermediate, Terminus, ChangeEnRoute, TiplocInsert, TiplocAmend, TiplocDelete, Association}
 use Rattle.cif.specs.Refusals.{then}
 use Rattle.overlay.specs.Overlays.{pending_in}
 use Rattle.extract.specs.declared.stage.Stage.TheVariants.{Between, Begun, Extra, Running, Changed}
@@ -19,20 +19,20 @@ take_terminus-requires g c =
     let n = length (pending_in c.args.overlay.now.pending) in
     record { stage = c.in-Running-Terminus.is-0; room = ltb-true n 32 (sym (ap (λ x. has_room x n) c.in-Running-Terminus.is-0) ∙ c.requires) }
 
-pub returns-in-Between-LocationInsert-clause-told : goal.returns-in-Between-LocationInsert-clause-told
-returns-in-Between-LocationInsert-clause-told g c r =
+pub returns-in-Between-TiplocInsert-clause-told : goal.returns-in-Between-TiplocInsert-clause-told
+returns-in-Between-TiplocInsert-clause-told g c r =
     let s = standing g.S.Timetable.meaning c.args.self.now c.args.overlay.now r in
-    told_by _ _ _ c.pass.result (in_place s c.args.row.now.identity LocationInsert c.args.row.now.bytes Between (Unread LocationInsert) c.in-Between-LocationInsert.is-0 (sym c.in-Between-LocationInsert.ensures) refl refl) (c.pass.ensures.told s LocationInsert refl (ap (λ x. next_stage x LocationInsert false) c.in-Between-LocationInsert.is-0, refl))
+    told_by _ _ _ c.pass.result (in_place s c.args.row.now.identity TiplocInsert c.args.row.now.bytes Between (Unread TiplocInsert) c.in-Between-TiplocInsert.is-0 (sym c.in-Between-TiplocInsert.ensures) refl refl) (c.pass.ensures.told s TiplocInsert refl (ap (λ x. next_stage x TiplocInsert false) c.in-Between-TiplocInsert.is-0, refl))
 
-pub returns-in-Between-LocationAmend-clause-told : goal.returns-in-Between-LocationAmend-clause-told
-returns-in-Between-LocationAmend-clause-told g c r =
+pub returns-in-Between-TiplocAmend-clause-told : goal.returns-in-Between-TiplocAmend-clause-told
+returns-in-Between-TiplocAmend-clause-told g c r =
     let s = standing g.S.Timetable.meaning c.args.self.now c.args.overlay.now r in
-    told_by _ _ _ c.pass-in-Between-LocationAmend.result (in_place s c.args.row.now.identity LocationAmend c.args.row.now.bytes Between (Unread LocationAmend) c.in-Between-LocationAmend.is-0 (sym c.in-Between-LocationAmend.ensures) refl refl) (c.pass-in-Between-LocationAmend.ensures.told s LocationAmend refl (ap (λ x. next_stage x LocationAmend false) c.in-Between-LocationAmend.is-0, refl))
+    told_by _ _ _ c.pass-in-Between-TiplocAmend.result (in_place s c.args.row.now.identity TiplocAmend c.args.row.now.bytes Between (Unread TiplocAmend) c.in-Between-TiplocAmend.is-0 (sym c.in-Between-TiplocAmend.ensures) refl refl) (c.pass-in-Between-TiplocAmend.ensures.told s TiplocAmend refl (ap (λ x. next_stage x TiplocAmend false) c.in-Between-TiplocAmend.is-0, refl))
 
-pub returns-in-Between-LocationDelete-clause-told : goal.returns-in-Between-LocationDelete-clause-told
-returns-in-Between-LocationDelete-clause-told g c r =
+pub returns-in-Between-TiplocDelete-clause-told : goal.returns-in-Between-TiplocDelete-clause-told
+returns-in-Between-TiplocDelete-clause-told g c r =
     let s = standing g.S.Timetable.meaning c.args.self.now c.args.overlay.now r in
-    told_by _ _ _ c.pass-in-Between-LocationDelete.result (in_place s c.args.row.now.identity LocationDelete c.args.row.now.bytes Between (Unread LocationDelete) c.in-Between-LocationDelete.is-0 (sym c.in-Between-LocationDelete.ensures) refl refl) (c.pass-in-Between-LocationDelete.ensures.told s LocationDelete refl (ap (λ x. next_stage x LocationDelete false) c.in-Between-LocationDelete.is-0, refl))
+    told_by _ _ _ c.pass-in-Between-TiplocDelete.result (in_place s c.args.row.now.identity TiplocDelete c.args.row.now.bytes Between (Unread TiplocDelete) c.in-Between-TiplocDelete.is-0 (sym c.in-Between-TiplocDelete.ensures) refl refl) (c.pass-in-Between-TiplocDelete.ensures.told s TiplocDelete refl (ap (λ x. next_stage x TiplocDelete false) c.in-Between-TiplocDelete.is-0, refl))
 
 pub returns-in-Between-Association-clause-told : goal.returns-in-Between-Association-clause-told
 returns-in-Between-Association-clause-told g c r =

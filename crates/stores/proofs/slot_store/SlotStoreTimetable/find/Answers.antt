@@ -5,12 +5,12 @@ use Rattle.stores.proofs.Whole.{same_store}
 use Rattle.stores.proofs.slot_store.SlotStoreTimetable.find.Goals as goal
 
 pub returns-in-Some-clause-found : goal.returns-in-Some-clause-found
-returns-in-Some-clause-found g c = c.set.ensures.told ∙ found_valid _ c.args.key c.in-Some.plain c.args.self.now.valid c.in-Some.ensures.value ∙ ap is_some c.in-Some.ensures.value
+returns-in-Some-clause-found g c = c.set.ensures.told ∙ found_valid _ c.args.key c.in-Some.fields c.args.self.now.valid c.in-Some.ensures.value ∙ ap is_some c.in-Some.ensures.value
 
 pub returns-in-Some-clause-copied : goal.returns-in-Some-clause-copied
 returns-in-Some-clause-copied g c =
-    OnTrue_at (c.set.ensures.told ∙ found_valid _ c.args.key c.in-Some.plain c.args.self.now.valid c.in-Some.ensures.value) c.set.ensures.set
-    ∙ ap (λ o. unwrap_or o c.args.place.now.plain) c.in-Some.ensures.value
+    OnTrue_at (c.set.ensures.told ∙ found_valid _ c.args.key c.in-Some.fields c.args.self.now.valid c.in-Some.ensures.value) c.set.ensures.set
+    ∙ ap (λ o. unwrap_or o c.args.place.now.fields) c.in-Some.ensures.value
 
 pub returns-in-Some-clause-same : goal.returns-in-Some-clause-same
 returns-in-Some-clause-same g c = same_store _ _ c.in-Some.ensures.same

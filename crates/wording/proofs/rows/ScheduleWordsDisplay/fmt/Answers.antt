@@ -9,7 +9,7 @@ in_one : (verb train kind from runs : List ℕ)
     ≡ verb ++ codes " schedule: train " ++ train ++ codes ", " ++ kind ++ codes ", from " ++ from ++ runs
 in_one verb train kind from runs = simp append_assoc
 
-said : (s : BasicSchedule) (verb kind runs : List ℕ) → verb ≡ verb_text s.change → kind ≡ kind_text s.stp → runs ≡ runs_text s.change
+said : (s : BasicSchedule) (verb kind runs : List ℕ) → verb ≡ verb_text s.action → kind ≡ kind_text s.stp → runs ≡ runs_text s.action
     → (verb ++ (codes " schedule: train " ++ (train_text s.uid ++ (codes ", " ++ (kind ++ (codes ", from " ++ day_text s.from)))))) ++ runs
     ≡ schedule_text s
 said s verb kind runs v k r =
