@@ -7,35 +7,35 @@ use Rattle.std.proofs.lemmas.Bool.Decides.{nat_tests}
 use Rattle.std.specs.Prelude.{◌==◌}
 use Rattle.forms.specs.Bytes.{is_digit, and_then}
 use Rattle.forms.specs.Forms.{number_after}
-use Rattle.scripts.specs.Texts.{hex_byte, first_meant, escaped, meant, meant_escaped, at_most, number_up_to}
+use Rattle.scripts.specs.Texts.{hex_byte, first_byte_of, escaped, bytes_of, escaped_bytes_of, at_most, number_up_to}
 
 -- a byte with a rest is told apart from every other, and from none
-pub same_first : (x b : ℕ) (xs rest : List ℕ) → ◌≡◌ {A = Option (ℕ × List ℕ)} (Some (x, xs)) (Some (b, rest)) → option_map (λ bs. x ∷ bs) (meant xs) ≡ option_map (λ bs. b ∷ bs) (meant rest)
+pub same_first : (x b : ℕ) (xs rest : List ℕ) → ◌≡◌ {A = Option (ℕ × List ℕ)} (Some (x, xs)) (Some (b, rest)) → option_map (λ bs. x ∷ bs) (bytes_of xs) ≡ option_map (λ bs. b ∷ bs) (bytes_of rest)
 same_first x b xs rest e =
     let pair : ◌≡◌ {A = ℕ × List ℕ} (x, xs) (b, rest) = cc in
     let p : x ≡ b = ap (λ (v : ℕ × List ℕ). v.0) pair in
     let q : xs ≡ rest = ap (λ (v : ℕ × List ℕ). v.1) pair in
-    ap (λ (y : ℕ). option_map (λ bs. y ∷ bs) (meant xs)) p ∙ ap (λ (ys : List ℕ). option_map (λ bs. b ∷ bs) (meant ys)) q
+    ap (λ (y : ℕ). option_map (λ bs. y ∷ bs) (bytes_of xs)) p ∙ ap (λ (ys : List ℕ). option_map (λ bs. b ∷ bs) (bytes_of ys)) q
 
 pub no_first : (x : ℕ) (xs : List ℕ) → ◌≡◌ {A = Option (ℕ × List ℕ)} (Some (x, xs)) None → ⊥
 no_first x xs e = cc
 
 -- behind a `\`, the first byte and then the rest
-pub meant_behind : (text : List ℕ) (b : ℕ) (rest : List ℕ) → escaped text ≡ Some (b, rest) → meant_escaped text ≡ option_map (λ bs. b ∷ bs) (meant rest)
+pub meant_behind : (text : List ℕ) (b : ℕ) (rest : List ℕ) → escaped text ≡ Some (b, rest) → escaped_bytes_of text ≡ option_map (λ bs. b ∷ bs) (bytes_of rest)
 meant_behind [] b rest h = cc
 meant_behind (high ∷ []) b rest h = cc
 meant_behind (high ∷ low ∷ others) b rest h =
-    elim (hex_byte high low) as (λ (o : Option ℕ). option_map {U = ℕ × List ℕ} (λ x. (x, others)) o ≡ Some (b, rest) → and_then o (λ x. option_map (λ bs. x ∷ bs) (meant others)) ≡ option_map (λ bs. b ∷ bs) (meant rest)) [
+    elim (hex_byte high low) as (λ (o : Option ℕ). option_map {U = ℕ × List ℕ} (λ x. (x, others)) o ≡ Some (b, rest) → and_then o (λ x. option_map (λ bs. x ∷ bs) (bytes_of others)) ≡ option_map (λ bs. b ∷ bs) (bytes_of rest)) [
       | Some x ↦ λ e. same_first x b others rest e
       | None ↦ λ e. absurd (no_first b rest (sym e))
     ]
     h
 
 -- a text stands for its first byte and then for what the rest stands for
-pub meant_first : (text : List ℕ) (b : ℕ) (rest : List ℕ) → first_meant text ≡ Some (b, rest) → meant text ≡ option_map (λ bs. b ∷ bs) (meant rest)
+pub meant_first : (text : List ℕ) (b : ℕ) (rest : List ℕ) → first_byte_of text ≡ Some (b, rest) → bytes_of text ≡ option_map (λ bs. b ∷ bs) (bytes_of rest)
 meant_first [] b rest h = cc
 meant_first (c ∷ cs) b rest h =
-    elim (c == 92) as (λ (t : Bool). cond t (escaped cs) (Some (c, cs)) ≡ Some (b, rest) → cond t (meant_escaped cs) (option_map (λ bs. c ∷ bs) (meant cs)) ≡ option_map (λ bs. b ∷ bs) (meant rest)) [
+    elim (c == 92) as (λ (t : Bool). cond t (escaped cs) (Some (c, cs)) ≡ Some (b, rest) → cond t (escaped_bytes_of cs) (option_map (λ bs. c ∷ bs) (bytes_of cs)) ≡ option_map (λ bs. b ∷ bs) (bytes_of rest)) [
       | true ↦ λ e. meant_behind cs b rest e
       | false ↦ λ e. same_first c b cs rest e
     ]
@@ -66,5 +66,5 @@ too_large_at n i most cs l h above =
     ap (at_most most) (at_drop_more (number_after n) cs i 0 l ∙ cond-true (is_digit (get_or cs i 0)) _ _ (sym h)) ∙ too_large (drop (i + 1) cs) (n * 10 + (get_or cs i 0 - 48)) most above
 
 -- one turn of the loop: the first byte of what is left is put behind those before it
-pub turn_more : (out text rest : List ℕ) (b : ℕ) → first_meant text ≡ Some (b, rest) → option_map (λ bs. (out ++ b ∷ []) ++ bs) (meant rest) ≡ option_map (λ bs. out ++ bs) (meant text)
-turn_more out text rest b h = one_more out b (meant rest) ∙ sym (ap (option_map (λ bs. out ++ bs)) (meant_first text b rest h))
+pub turn_more : (out text rest : List ℕ) (b : ℕ) → first_byte_of text ≡ Some (b, rest) → option_map (λ bs. (out ++ b ∷ []) ++ bs) (bytes_of rest) ≡ option_map (λ bs. out ++ bs) (bytes_of text)
+turn_more out text rest b h = one_more out b (bytes_of rest) ∙ sym (ap (option_map (λ bs. out ++ bs)) (meant_first text b rest h))

@@ -5,7 +5,7 @@ use Rattle.std.proofs.lemmas.Bool.Decides.{nat_tests}
 use Rattle.std.specs.Prelude.{codes}
 use Rattle.std.specs.Str.{bytes_eq, IsUtf8}
 use Rattle.std.proofs.lemmas.Slice.Eq.{bytes_eq-Decides}
-use Rattle.scripts.specs.Lines.{word_in, behind_word, says, said_by}
+use Rattle.scripts.specs.Lines.{word_in, behind_word, meaning_of_line, meaning_by_word}
 
 -- the place of the first blank, or the length where there is none
 abbrev pub blank_in : List ℕ → ℕ
@@ -63,7 +63,7 @@ pub found_none : (p len : ℕ) → ◌≡◌ {A = Option ℕ} None (cond (ltb p 
 found_none p len h = grind (arith, nat_tests)
 
 -- a line that is not passed over says what its word and what follows it say
-pub says_by : (line : List ℕ) → 0 < length line → get_or line 0 0 ≢ 35 → says line ≡ said_by (word_in line) (behind_word line)
+pub says_by : (line : List ℕ) → 0 < length line → get_or line 0 0 ≢ 35 → meaning_of_line line ≡ meaning_by_word (word_in line) (behind_word line)
 says_by [] h k = absurd (omega arith)
 says_by (c ∷ cs) h k = grind (arith, nat_tests)
 
@@ -75,7 +75,7 @@ no_true false h = refl
 pub other_word : (word name : List ℕ) → (IsUtf8 word → ⊥) → IsUtf8 name → bytes_eq word name ≡ false
 other_word word name h u = no_true (bytes_eq word name) (λ t. h (subst IsUtf8 (sym ((bytes_eq-Decides word name).0 t)) u))
 
-pub no_word : (word : List ℕ) (rest : Option (List ℕ)) → (IsUtf8 word → ⊥) → said_by word rest ≡ None
+pub no_word : (word : List ℕ) (rest : Option (List ℕ)) → (IsUtf8 word → ⊥) → meaning_by_word word rest ≡ None
 unfolding lib.Utf8.encode
 no_word word rest h =
     let apart = λ (name : List ℕ) (u : IsUtf8 name). other_word word name h u in

@@ -5,19 +5,19 @@ use Rattle.forms.specs.Bytes.{and_then}
 use Rattle.controller.specs.Calls.{Call}
 use Rattle.scripts.specs.declared.history.History.{History}
 use Rattle.scripts.specs.Steps.{call_of}
-use Rattle.scripts.specs.Lines.{Says, Nothing, New, Other, Asks, says}
+use Rattle.scripts.specs.Lines.{LineMeaning, Nothing, New, Other, Asks, meaning_of_line}
 
 -- a history: how many slots and line slots, the calls, and those of the bag's controller where it
 -- has its own
-pub record Told : Type 0 where
+pub record ScriptHistory : Type 0 where
   pub capacity : ℕ
   pub slots : ℕ
   pub calls : List Call
   pub other : Option (List Call)
 
 -- the history that a value holds
-abbrev pub told : History → Told
-told h =
+abbrev pub history_of : History → ScriptHistory
+history_of h =
     record {
       capacity = h.capacity;
       slots = h.slots;
@@ -26,8 +26,8 @@ told h =
     }
 
 -- a history without calls
-abbrev pub begun : ℕ → ℕ → Told
-begun capacity slots = record { capacity = capacity; slots = slots; calls = []; other = None }
+abbrev pub new_history : ℕ → ℕ → ScriptHistory
+new_history capacity slots = record { capacity = capacity; slots = slots; calls = []; other = None }
 
 -- the calls with one more behind them, unless the bag's controller has its own
 abbrev pub calls_with : Call → List Call → Option (List Call) → List Call
@@ -35,7 +35,7 @@ calls_with call calls None = calls ++ call ∷ []
 calls_with call calls (Some other) = calls
 
 -- a history with one more call, among those of the bag's controller where it has its own
-abbrev pub with_call : Call → Told → Told
+abbrev pub with_call : Call → ScriptHistory → ScriptHistory
 with_call call h =
     record h {
       calls = calls_with call h.calls h.other;
@@ -48,11 +48,12 @@ first_other None = Some []
 first_other (Some other) = None
 
 -- a history with calls of the bag's controller from here on
-abbrev pub with_other : Told → Option Told
+abbrev pub with_other : ScriptHistory → Option ScriptHistory
 with_other h = option_map (λ other. record h { other = Some other }) (first_other h.other)
 
 -- histories with the last one changed, where there is one and the change may be
-abbrev pub on_last : (Told → Option Told) → List Told → Option (List Told)
+abbrev pub on_last :
+    (ScriptHistory → Option ScriptHistory) → List ScriptHistory → Option (List ScriptHistory)
 on_last change [] = None
 on_last change (h ∷ []) = option_map (λ changed. changed ∷ []) (change h)
 on_last change (h ∷ next ∷ more) =
@@ -60,11 +61,11 @@ on_last change (h ∷ next ∷ more) =
 
 -- the histories after a line, by those before it and what it says, if it may stand there: a call
 -- and `other` stand behind a `new`
-abbrev pub after : List Told → Says → Option (List Told)
-after histories Nothing = Some histories
-after histories (New capacity slots) = Some (histories ++ begun capacity slots ∷ [])
-after histories Other = on_last with_other histories
-after histories (Asks call) = on_last (λ h. Some (with_call call h)) histories
+abbrev pub histories_after : List ScriptHistory → LineMeaning → Option (List ScriptHistory)
+histories_after histories Nothing = Some histories
+histories_after histories (New capacity slots) = Some (histories ++ new_history capacity slots ∷ [])
+histories_after histories Other = on_last with_other histories
+histories_after histories (Asks call) = on_last (λ h. Some (with_call call h)) histories
 
 -- a byte put before the first of some lines
 abbrev pub before_first : ℕ → List (List ℕ) → List (List ℕ)
@@ -78,19 +79,21 @@ lines_of (c ∷ cs) = if c == 10 then [] ∷ lines_of cs else before_first c (li
 
 -- what follows the histories after a line, or the number of a line that may not stand where it does
 abbrev pub or_line :
-    ℕ → Option (List Told) → (List Told → Result (List Told) ℕ) → Result (List Told) ℕ
+    ℕ → Option (List ScriptHistory) → (List ScriptHistory → Result (List ScriptHistory) ℕ)
+    → Result (List ScriptHistory) ℕ
 or_line number (Some histories) following = following histories
 or_line number None following = Err number
 
 -- the histories after some lines, by those before them, or the number of the first line that is
 -- none of a script or stands where it may not
-abbrev pub after_all : ℕ → List Told → List (List ℕ) → Result (List Told) ℕ
-after_all number histories [] = Ok histories
-after_all number histories (line ∷ lines) =
-    or_line number (and_then (says line) (after histories))
-    (λ next. after_all (number + 1) next lines)
+abbrev pub histories_after_all :
+    ℕ → List ScriptHistory → List (List ℕ) → Result (List ScriptHistory) ℕ
+histories_after_all number histories [] = Ok histories
+histories_after_all number histories (line ∷ lines) =
+    or_line number (and_then (meaning_of_line line) (histories_after histories))
+    (λ next. histories_after_all (number + 1) next lines)
 
 -- the histories of a script, whose lines are counted from 1, or the number of the first line that
 -- is none or stands where it may not
-abbrev pub histories_of : List ℕ → Result (List Told) ℕ
-histories_of script = after_all 1 [] (lines_of script)
+abbrev pub histories_of : List ℕ → Result (List ScriptHistory) ℕ
+histories_of script = histories_after_all 1 [] (lines_of script)

@@ -4,9 +4,9 @@ use Rattle.std.specs.Option.{option_map}
 use Rattle.std.specs.Str.{bytes_eq}
 use Rattle.forms.specs.Bytes.{and_then}
 use Rattle.controller.specs.Calls.{Call, Open, Row, Confirm, Abandon, Turn, Tell, Tally}
-use Rattle.scripts.specs.declared.reading.Said.{Said}
-use Rattle.scripts.specs.declared.reading.Said.TheVariants.{Nothing as SaidNothing, New as SaidNew, Other as SaidOther, Step as SaidStep}
-use Rattle.scripts.specs.Texts.{meant, number_up_to}
+use Rattle.scripts.specs.declared.reading.ScriptLine.{ScriptLine}
+use Rattle.scripts.specs.declared.reading.ScriptLine.TheVariants.{Nothing as IsNothing, New as IsNew, Other as IsOther, Step as IsStep}
+use Rattle.scripts.specs.Texts.{bytes_of, number_up_to}
 use Rattle.scripts.specs.Steps.{call_of}
 
 -- the word that a line begins with: what stands before the first blank
@@ -34,7 +34,7 @@ alone x (Some rest) = None
 abbrev pub turn_in : List ℕ → Option Call
 turn_in rest =
     and_then (number_up_to 4294967295 (word_in rest)) (λ day.
-    option_map (λ station. Turn station day) (meant (or_empty (behind_word rest))))
+    option_map (λ station. Turn station day) (bytes_of (or_empty (behind_word rest))))
 
 -- the call tell that a text asks for: a place
 abbrev pub tell_in : List ℕ → Option Call
@@ -43,8 +43,8 @@ tell_in place = option_map Tell (number_up_to 18446744073709551615 place)
 -- the call that a word and what follows it ask for
 abbrev pub call_in : List ℕ → Option (List ℕ) → Option Call
 call_in word rest =
-    if bytes_eq word (codes "open") then option_map Open (meant (or_empty rest))
-    else (if bytes_eq word (codes "row") then option_map Row (meant (or_empty rest))
+    if bytes_eq word (codes "open") then option_map Open (bytes_of (or_empty rest))
+    else (if bytes_eq word (codes "row") then option_map Row (bytes_of (or_empty rest))
     else (if bytes_eq word (codes "confirm") then alone Confirm rest
     else (if bytes_eq word (codes "abandon") then alone Abandon rest
     else (if bytes_eq word (codes "turn") then and_then rest turn_in
@@ -54,36 +54,36 @@ call_in word rest =
 
 -- what a line says: nothing, that a history begins, that the bag's controller gets the calls that
 -- follow, or a call
-pub data Says : Type 0 where
-  Nothing : Says
-  New : ℕ → ℕ → Says
-  Other : Says
-  Asks : Call → Says
+pub data LineMeaning : Type 0 where
+  Nothing : LineMeaning
+  New : ℕ → ℕ → LineMeaning
+  Other : LineMeaning
+  Asks : Call → LineMeaning
 
 -- the history that begins with its slots, 65,536 at most, and behind a blank its line slots,
 -- 131,072 at most
-abbrev pub new_in : List ℕ → Option Says
+abbrev pub new_in : List ℕ → Option LineMeaning
 new_in numbers =
     and_then (number_up_to 65536 (word_in numbers)) (λ capacity.
     and_then (behind_word numbers) (λ rest. option_map (New capacity) (number_up_to 131072 rest)))
 
 -- what a word and what follows it say
-abbrev pub said_by : List ℕ → Option (List ℕ) → Option Says
-said_by word rest =
+abbrev pub meaning_by_word : List ℕ → Option (List ℕ) → Option LineMeaning
+meaning_by_word word rest =
     if bytes_eq word (codes "new") then and_then rest new_in
     else (if bytes_eq word (codes "other") then alone Other rest
     else option_map Asks (call_in word rest))
 
 -- what a line says, if it is one of a script: an empty line and one that begins with `#` are passed
 -- over
-abbrev pub says : List ℕ → Option Says
-says [] = Some Nothing
-says (c ∷ cs) =
-    if c == 35 then Some Nothing else said_by (word_in (c ∷ cs)) (behind_word (c ∷ cs))
+abbrev pub meaning_of_line : List ℕ → Option LineMeaning
+meaning_of_line [] = Some Nothing
+meaning_of_line (c ∷ cs) =
+    if c == 35 then Some Nothing else meaning_by_word (word_in (c ∷ cs)) (behind_word (c ∷ cs))
 
 -- what a line that has been read says
-abbrev pub says_of : Said → Says
-says_of SaidNothing = Nothing
-says_of (SaidNew capacity slots) = New capacity slots
-says_of SaidOther = Other
-says_of (SaidStep step) = Asks (call_of step)
+abbrev pub meaning_of : ScriptLine → LineMeaning
+meaning_of IsNothing = Nothing
+meaning_of (IsNew capacity slots) = New capacity slots
+meaning_of IsOther = Other
+meaning_of (IsStep step) = Asks (call_of step)

@@ -28,23 +28,23 @@ escaped (high ∷ low ∷ rest) = option_map (λ b. (b, rest)) (hex_byte high lo
 
 -- the byte that a text begins with, and the text behind it: a `\` begins an escaped byte, every
 -- other byte stands for itself
-abbrev pub first_meant : List ℕ → Option (ℕ × List ℕ)
-first_meant [] = None
-first_meant (b ∷ rest) = if b == 92 then escaped rest else Some (b, rest)
+abbrev pub first_byte_of : List ℕ → Option (ℕ × List ℕ)
+first_byte_of [] = None
+first_byte_of (b ∷ rest) = if b == 92 then escaped rest else Some (b, rest)
 
 abbrev mutual
   -- the bytes that a text stands for, one after another
-  pub meant : List ℕ → Option (List ℕ)
-  meant [] = Some []
-  meant (b ∷ rest) =
-      if b == 92 then meant_escaped rest else option_map (λ bs. b ∷ bs) (meant rest)
+  pub bytes_of : List ℕ → Option (List ℕ)
+  bytes_of [] = Some []
+  bytes_of (b ∷ rest) =
+      if b == 92 then escaped_bytes_of rest else option_map (λ bs. b ∷ bs) (bytes_of rest)
 
   -- those of a text that stands behind a `\`
-  pub meant_escaped : List ℕ → Option (List ℕ)
-  meant_escaped [] = None
-  meant_escaped (high ∷ []) = None
-  meant_escaped (high ∷ low ∷ rest) =
-      and_then (hex_byte high low) (λ b. option_map (λ bs. b ∷ bs) (meant rest))
+  pub escaped_bytes_of : List ℕ → Option (List ℕ)
+  escaped_bytes_of [] = None
+  escaped_bytes_of (high ∷ []) = None
+  escaped_bytes_of (high ∷ low ∷ rest) =
+      and_then (hex_byte high low) (λ b. option_map (λ bs. b ∷ bs) (bytes_of rest))
 
 -- a number where it is not above a limit
 abbrev pub at_most : ℕ → Option ℕ → Option ℕ

@@ -1,6 +1,6 @@
 //! Histories: the calls to the controllers over two stores.
 ghost use Rattle.std.specs.Prelude.{◌≡◌, [], ◌∷◌, ◌++◌, option_map, OnOk, OnSome, IfSome, IfNone};
-ghost use Rattle.scripts.specs.Histories.{told, with_call};
+ghost use Rattle.scripts.specs.Histories.{history_of, with_call};
 ghost use Rattle.scripts.specs.Steps.{call_of};
 
 use crate::step::Step;
@@ -38,7 +38,8 @@ impl History {
         ensures left { OnOk result (OnSome self.old.other (self.new.calls ≡ self.old.calls)) }
         ensures other { OnOk result (option_map (λ more. more.items) self.new.other
             ≡ option_map (λ other. other.items ++ step ∷ []) self.old.other) }
-        ensures told { OnOk result (told self.new ≡ with_call (call_of step) (told self.old)) }
+        ensures history { OnOk result
+            (history_of self.new ≡ with_call (call_of step) (history_of self.old)) }
         ensures capacity { self.new.capacity ≡ self.old.capacity }
         ensures slots { self.new.slots ≡ self.old.slots }
     {

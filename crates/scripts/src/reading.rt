@@ -1,14 +1,14 @@
 //! The lines of a script, read one after another.
 ghost use Rattle.std.specs.Prelude.{◌≡◌, ℕ, map, Some, None, Ok, Err, option_map, IfOk};
 ghost use Rattle.std.specs.Bool.{OnTrue, OnFalse};
-ghost use Rattle.scripts.specs.Histories.{told, after, histories_of};
-ghost use Rattle.scripts.specs.Lines.{says_of, new_in, turn_in, call_in, says};
+ghost use Rattle.scripts.specs.Histories.{history_of, histories_after, histories_of};
+ghost use Rattle.scripts.specs.Lines.{meaning_of, new_in, turn_in, call_in, meaning_of_line};
 ghost use Rattle.scripts.specs.Steps.{call_of};
 ghost use Rattle.scripts.specs.declared.reading.Unread.TheVariants.{Line, Memory};
 
 use crate::history::History;
 use crate::step::Step;
-use crate::text::{meant, number_up_to, split_blank};
+use crate::text::{bytes_of, number_up_to, split_blank};
 use files::Rows;
 use std::alloc::{AllocError, Global};
 
@@ -20,7 +20,7 @@ const MOST_LINES: u64 = 131_072;
 
 // What a line of a script says.
 #[derive(Drop)]
-enum Said {
+enum ScriptLine {
     Nothing,
     New(usize, usize),
     Other,
@@ -28,13 +28,13 @@ enum Said {
 }
 
 // A new history's slots and line slots.
-fn new_in(numbers: &[u8]) -> Option<Said>
-    ensures { option_map says_of result ≡ new_in numbers.now }
+fn new_in(numbers: &[u8]) -> Option<ScriptLine>
+    ensures { option_map meaning_of result ≡ new_in numbers.now }
 {
     let (capacity, slots) = split_blank(numbers);
     let capacity = number_up_to(MOST_SLOTS, capacity)?;
     let slots = number_up_to(MOST_LINES, slots?)?;
-    Some(Said::New(capacity as usize, slots as usize))
+    Some(ScriptLine::New(capacity as usize, slots as usize))
 }
 
 // The call that a day and a station, behind the word `turn`, ask for.
@@ -46,7 +46,7 @@ fn turn_in(alloc: Global, rest: &[u8]) -> Result<Option<Step>, AllocError>
         return Ok(None);
     };
     let day = day as u32;
-    let station = meant(alloc, station.unwrap_or(&[]))?;
+    let station = bytes_of(alloc, station.unwrap_or(&[]))?;
     Ok(station.map(|station| Step::Turn(day, station)))
 }
 
@@ -56,8 +56,8 @@ fn step_in(alloc: Global, word: &str, rest: Option<&[u8]>) -> Result<Option<Step
         ≡ call_in word.now (option_map (λ text. text.now) rest.entry)) }
 {
     let step = match (word, rest) {
-        ("open", _) => meant(alloc, rest.unwrap_or(&[]))?.map(Step::Open),
-        ("row", _) => meant(alloc, rest.unwrap_or(&[]))?.map(Step::Row),
+        ("open", _) => bytes_of(alloc, rest.unwrap_or(&[]))?.map(Step::Open),
+        ("row", _) => bytes_of(alloc, rest.unwrap_or(&[]))?.map(Step::Row),
         ("confirm", None) => Some(Step::Confirm),
         ("abandon", None) => Some(Step::Abandon),
         ("turn", Some(rest)) => turn_in(alloc, rest)?,
@@ -71,11 +71,11 @@ fn step_in(alloc: Global, word: &str, rest: Option<&[u8]>) -> Result<Option<Step
 }
 
 // What a line says, or none where it is no line of a script.
-fn said_in(alloc: Global, line: &[u8]) -> Result<Option<Said>, AllocError>
-    ensures { IfOk result (λ said. option_map says_of said ≡ says line.now) }
+fn script_line(alloc: Global, line: &[u8]) -> Result<Option<ScriptLine>, AllocError>
+    ensures { IfOk result (λ said. option_map meaning_of said ≡ meaning_of_line line.now) }
 {
     if line.is_empty() || line[0] == b'#' {
-        return Ok(Some(Said::Nothing));
+        return Ok(Some(ScriptLine::Nothing));
     }
     let (word, rest) = split_blank(line);
     let Ok(word) = str::from_utf8(word) else {
@@ -83,35 +83,35 @@ fn said_in(alloc: Global, line: &[u8]) -> Result<Option<Said>, AllocError>
     };
     let said = match (word, rest) {
         ("new", Some(numbers)) => new_in(numbers),
-        ("other", None) => Some(Said::Other),
-        _ => step_in(alloc, word, rest)?.map(Said::Step),
+        ("other", None) => Some(ScriptLine::Other),
+        _ => step_in(alloc, word, rest)?.map(ScriptLine::Step),
     };
     Ok(said)
 }
 
 // Adds what a line says to the histories before it, and says whether it may stand there.
-fn take(alloc: Global, histories: &mut Vec<History>, said: Said) -> Result<bool, AllocError>
+fn take(alloc: Global, histories: &mut Vec<History>, said: ScriptLine) -> Result<bool, AllocError>
     ensures taken { IfOk result (λ taken. OnTrue taken
-        (after (map told histories.old.items) (says_of said)
-        ≡ Some (map told histories.new.items))) }
+        (histories_after (map history_of histories.old.items) (meaning_of said)
+        ≡ Some (map history_of histories.new.items))) }
     ensures refused { IfOk result (λ taken. OnFalse taken
-        (after (map told histories.old.items) (says_of said) ≡ None)) }
+        (histories_after (map history_of histories.old.items) (meaning_of said) ≡ None)) }
     ensures unchanged { IfOk result
         (λ taken. OnFalse taken (histories.new.items ≡ histories.old.items)) }
 {
     match said {
-        Said::Nothing => {}
-        Said::New(capacity, slots) => histories.push(History {
+        ScriptLine::Nothing => {}
+        ScriptLine::New(capacity, slots) => histories.push(History {
             capacity,
             slots,
             calls: Vec::new(alloc),
             other: None,
         })?,
-        Said::Other => match histories.last_mut() {
+        ScriptLine::Other => match histories.last_mut() {
             Some(history) if history.other.is_none() => history.other = Some(Vec::new(alloc)),
             _ => return Ok(false),
         },
-        Said::Step(step) => match histories.last_mut() {
+        ScriptLine::Step(step) => match histories.last_mut() {
             Some(history) => history.push(step)?,
             None => return Ok(false),
         },
@@ -141,13 +141,13 @@ impl From<AllocError> for Unread {
 /// it may not, is told by its number.
 pub fn histories_in(alloc: Global, script: &[u8]) -> Result<Vec<History>, Unread>
     ensures histories { IfOk result
-        (λ histories. histories_of script.now ≡ Ok (map told histories.items)) }
+        (λ histories. histories_of script.now ≡ Ok (map history_of histories.items)) }
     ensures unread { (number : ℕ) → result ≡ Err (Line number)
         → histories_of script.now ≡ Err number }
 {
     let mut histories = Vec::new(alloc);
     for (place, line) in Rows::new(script).enumerate() {
-        let taken = match said_in(alloc, line)? {
+        let taken = match script_line(alloc, line)? {
             Some(said) => take(alloc, &mut histories, said)?,
             None => false,
         };

@@ -1,7 +1,7 @@
 //! What texts and digits stand for.
 ghost use Rattle.std.specs.Prelude.{◌≡◌, ◌<◌, ◌≤◌, length, option_map, IfOk, IfSome};
 ghost use Rattle.scripts.specs.Lines.{word_in, behind_word};
-ghost use Rattle.scripts.specs.Texts.{hex_value, first_meant, meant, number_up_to};
+ghost use Rattle.scripts.specs.Texts.{hex_value, first_byte_of, bytes_of, number_up_to};
 
 use std::alloc::{AllocError, Global};
 
@@ -20,8 +20,8 @@ fn hex_digit(digit: u8) -> Option<u8>
 
 // The first byte that a text stands for, and the text behind it. A `\` and two hexadecimal digits
 // stand for one byte.
-fn first_meant(text: &[u8]) -> Option<(u8, &[u8])>
-    ensures meant { option_map (λ first. (first.0, first.1.now)) result ≡ first_meant text.now }
+fn first_byte_of(text: &[u8]) -> Option<(u8, &[u8])>
+    ensures first { option_map (λ first. (first.0, first.1.now)) result ≡ first_byte_of text.now }
     ensures shorter { IfSome result (λ first. length first.1.now < length text.now) }
 {
     match text {
@@ -32,13 +32,13 @@ fn first_meant(text: &[u8]) -> Option<(u8, &[u8])>
 }
 
 // The bytes that a text stands for, or none where a `\` has no two hexadecimal digits behind it.
-pub(crate) fn meant(alloc: Global, text: &[u8]) -> Result<Option<Vec<u8>>, AllocError>
-    ensures { IfOk result (λ bytes. option_map (λ v. v.items) bytes ≡ meant text.now) }
+pub(crate) fn bytes_of(alloc: Global, text: &[u8]) -> Result<Option<Vec<u8>>, AllocError>
+    ensures { IfOk result (λ bytes. option_map (λ v. v.items) bytes ≡ bytes_of text.now) }
 {
     let mut bytes = Vec::new(alloc);
     let mut rest = text;
     while !rest.is_empty() {
-        let Some((byte, others)) = first_meant(rest) else {
+        let Some((byte, others)) = first_byte_of(rest) else {
             return Ok(None);
         };
         bytes.push(byte)?;
