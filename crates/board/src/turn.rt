@@ -17,7 +17,7 @@ use timetable::{Store, Timetable};
 
 impl StationDay {
     // The station and day that are asked for, where there are such.
-    fn asked(station: &[u8], day: u32) -> Option<StationDay>
+    fn new(station: &[u8], day: u32) -> Option<StationDay>
         ensures { result ≡ shown_for station.now day }
     {
         let station = tiploc(station)?;
@@ -76,7 +76,7 @@ impl Board<'_> {
         ensures unchanged { OnErr result (self.new ≡ self.old) }
         ensures same { store.new ≡ store.old }
     {
-        let shown = StationDay::asked(station, day).ok_or(Refusal::NoSuchBoard.at(0))?;
+        let shown = StationDay::new(station, day).ok_or(Refusal::NoSuchBoard.at(0))?;
         self.suits(store)?;
         set_lines(store, &mut self.lines, &shown);
         self.shown = Some(shown);

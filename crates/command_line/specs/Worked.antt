@@ -12,8 +12,8 @@ abbrev pub words_of : Text → List Text
 words_of [] = [] ∷ []
 words_of (c ∷ cs) = cond (c == 32) ([] ∷ words_of cs) (with_first c (words_of cs))
 
-abbrev pub asked_by : Text → Option Request
-asked_by line = request_in (words_of line)
+abbrev pub request_by_line : Text → Option Request
+request_by_line line = request_in (words_of line)
 
 abbrev pub week : List Text
 week = codes "week.cif" ∷ []
@@ -24,23 +24,23 @@ usual_board = board_with Table 2000 (codes "HALTA") (codes "240304")
 
 -- each task
 pub record Tasks : Type 0 where
-  pub rows : asked_by (codes "rows week.cif update.cif")
+  pub rows : request_by_line (codes "rows week.cif update.cif")
       ≡ Some (rows (codes "week.cif" ∷ codes "update.cif" ∷ []))
-  pub replay : asked_by (codes "replay week.cif") ≡ Some (replay week)
-  pub stores : asked_by (codes "stores week.cif") ≡ Some (stores 2000 week)
-  pub run : asked_by (codes "run HALTA 240304 week.cif") ≡ Some (run usual_board week)
-  pub board : asked_by (codes "board HALTA 240304 week.cif") ≡ Some (board usual_board week)
-  pub turns : asked_by (codes "turns 1000 HALTA 240304 week.cif")
+  pub replay : request_by_line (codes "replay week.cif") ≡ Some (replay week)
+  pub stores : request_by_line (codes "stores week.cif") ≡ Some (stores 2000 week)
+  pub run : request_by_line (codes "run HALTA 240304 week.cif") ≡ Some (run usual_board week)
+  pub board : request_by_line (codes "board HALTA 240304 week.cif") ≡ Some (board usual_board week)
+  pub turns : request_by_line (codes "turns 1000 HALTA 240304 week.cif")
       ≡ Some (turns 1000 usual_board week)
-  pub extract : asked_by (codes "extract HALTA 240304 week.cif")
+  pub extract : request_by_line (codes "extract HALTA 240304 week.cif")
       ≡ Some (extract None usual_board week)
 
 -- options, before the other words, among them and behind them
 pub record Options : Type 0 where
-  pub stores : asked_by (codes "stores --capacity 65536 week.cif") ≡ Some (stores 65536 week)
-  pub run : asked_by (codes "run HALTA --store bag 240304 week.cif --capacity=7")
+  pub stores : request_by_line (codes "stores --capacity 65536 week.cif") ≡ Some (stores 65536 week)
+  pub run : request_by_line (codes "run HALTA --store bag 240304 week.cif --capacity=7")
       ≡ Some (run (board_with Bag 7 (codes "HALTA") (codes "240304")) week)
-  pub extract : asked_by (codes "extract --base=week.cif --store table HALTA 240304 week.cif")
+  pub extract : request_by_line (codes "extract --base=week.cif --store table HALTA 240304 week.cif")
       ≡ Some (extract (Some (codes "week.cif")) usual_board week)
 
 -- wrong words, and those that ask for help or the version

@@ -1,9 +1,9 @@
 // An extract as it is read: stages, the transaction being read, what a row does.
 #![tactic(auto)]
 
-pub mod asking;
 pub mod extract;
 pub mod moving;
 pub mod opening;
 pub mod stage;
 pub mod taking;
+pub mod transactions;

@@ -9,7 +9,7 @@ ghost use Rattle.extract.specs.Stages.{next_stage, has_room, is_stage};
 ghost use Rattle.extract.specs.Judging.{Standing, verdict_on, GoesBy};
 ghost use Rattle.extract.specs.Standings.{progress_with, standing, range_in, StandsOn, Passes};
 
-use crate::asking::is_brief;
+use crate::transactions::is_brief;
 use crate::extract::Extract;
 use crate::stage::Stage;
 use cif::content::{BasicSchedule, Location};
@@ -109,14 +109,14 @@ impl Extract {
             (has_room self.new.stage (length (pending_in overlay.new.pending)) ≡ true) }
         ensures store { overlay.new.store ≡ overlay.old.store }
     {
-        let asked = self.asked(overlay, b)?;
+        let transaction = self.transaction(overlay, b)?;
         if is_brief(b) {
-            overlay.pending.join(asked);
+            overlay.pending.join(transaction);
             self.stage = Stage::Between;
             self.taken += 1;
             return Ok(());
         }
-        self.draft = asked;
+        self.draft = transaction;
         self.stage = Stage::Begun;
         self.taken += 1;
         Ok(())

@@ -4,7 +4,7 @@ ghost use Rattle.board.specs.Boards.{lines_of};
 ghost use Rattle.listing.specs.Stations.{filled_up};
 ghost use Rattle.listing.specs.Blanks.{blank_line};
 
-use crate::drafts::{Asked, Draft};
+use crate::drafts::{StoreRequest, Draft};
 use crate::error::{TaskError, read_file};
 use board::display::Board;
 use board::line::{Line, LineKey};
@@ -43,13 +43,13 @@ pub fn line_slots<S: Store>(rt: &HostRuntime, store: &mut S) -> Result<Vec<Line>
 }
 
 // Does what a row asks, and says whether it was a put that was refused.
-fn is_refused<S: Store>(store: &mut S, asked: Asked) -> bool
+fn is_refused<S: Store>(store: &mut S, request: StoreRequest) -> bool
     ensures { (S.meaning store.new).capacity ≡ (S.meaning store.old).capacity }
 {
-    match asked {
-        Asked::Put(schedule) => store.put(schedule).is_err(),
-        Asked::Unfit(_) => true,
-        Asked::Remove(key) => {
+    match request {
+        StoreRequest::Put(schedule) => store.put(schedule).is_err(),
+        StoreRequest::Unfit(_) => true,
+        StoreRequest::Remove(key) => {
             let _ = store.remove(key);
             false
         }
@@ -65,8 +65,8 @@ pub fn load_file<S: Store>(rt: &HostRuntime, store: &mut S, name: &str) -> Resul
     let mut refused: u64 = 0;
     for row in Rows::new(bytes.as_slice()) {
         if let Ok(content) = read(row)
-            && let Some(asked) = draft.take(content)
-            && is_refused(store, asked)
+            && let Some(request) = draft.take(content)
+            && is_refused(store, request)
         {
             refused = refused.saturating_add(1);
         }

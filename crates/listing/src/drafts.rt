@@ -1,13 +1,13 @@
 //! Schedules put together from their rows, without the rules of extracts.
 use cif::content::{Action, BasicSchedule, Content, Location};
-use extract::asking::key_in;
+use extract::transactions::key_in;
 use forms::letters::Stp;
 use schedule::key::Key;
 use schedule::schedule::Schedule;
 
 /// What rows ask of a store.
 #[derive(Clone, Copy)]
-pub enum Asked {
+pub enum StoreRequest {
     /// Set the schedule of its key.
     Put(Schedule),
     /// Set what is no schedule: its key alone is told.
@@ -49,27 +49,27 @@ impl Draft {
     }
 
     // Ends the schedule at its destination, and gives what it asks if one was begun.
-    fn end(&mut self, at: Location) -> Option<Asked>
+    fn end(&mut self, at: Location) -> Option<StoreRequest>
         ensures { ReadsNothing self.new }
     {
         self.call(at);
-        let asked = match self.begun.take()? {
-            Ok(schedule) => Asked::Put(schedule.with_destination(at.tiploc)),
-            Err(key) => Asked::Unfit(key),
+        let request = match self.begun.take()? {
+            Ok(schedule) => StoreRequest::Put(schedule.with_destination(at.tiploc)),
+            Err(key) => StoreRequest::Unfit(key),
         };
-        Some(asked)
+        Some(request)
     }
 
     /// Takes a row, and says what it asks. After an LT no schedule is being read.
-    pub fn take(&mut self, content: Content) -> Option<Asked>
+    pub fn take(&mut self, content: Content) -> Option<StoreRequest>
         ensures asks { OnFalse (can_ask content) (result ≡ None) }
         ensures ended { OnTrue (is_terminus content) (ReadsNothing self.new) }
     {
         match content {
             Content::Schedule(basic) => {
-                let (draft, asked) = begin(&basic);
+                let (draft, request) = begin(&basic);
                 *self = draft;
-                return asked;
+                return request;
             }
             Content::Operator(operator) => self.operator(operator),
             Content::Origin(at) | Content::Intermediate(at) => self.call(at),
@@ -81,17 +81,17 @@ impl Draft {
 }
 
 // What a BS begins, and what it asks at once.
-fn begin(basic: &BasicSchedule) -> (Draft, Option<Asked>) {
+fn begin(basic: &BasicSchedule) -> (Draft, Option<StoreRequest>) {
     let key = key_in(basic);
     let days = match basic.action {
-        Action::Delete => return (Draft::new(), Some(Asked::Remove(key))),
+        Action::Delete => return (Draft::new(), Some(StoreRequest::Remove(key))),
         Action::New(days) | Action::Revise(days) => days,
     };
     let Some(schedule) = Schedule::begun(key, days.to.0, days.days, days.train) else {
-        return (Draft::new(), Some(Asked::Unfit(key)));
+        return (Draft::new(), Some(StoreRequest::Unfit(key)));
     };
     match basic.stp {
-        Stp::Cancellation => (Draft::new(), Some(Asked::Put(schedule))),
+        Stp::Cancellation => (Draft::new(), Some(StoreRequest::Put(schedule))),
         _ => {
             let begun = Some(Ok(schedule));
             (Draft { begun }, None)

@@ -2,7 +2,7 @@
 ghost use Rattle.std.specs.Prelude.{◌≡◌, min, [], length, IsTrue};
 ghost use Rattle.schedule.specs.Records.{is_schedule};
 
-use crate::drafts::{Asked, Draft};
+use crate::drafts::{StoreRequest, Draft};
 use crate::error::{TaskError, read_file};
 use cif::reading::read;
 use files::Rows;
@@ -28,13 +28,13 @@ pub fn empty_record() -> Record
 }
 
 // What two stores answered, where both answered the same.
-fn agreed(table: bool, bag: bool) -> Option<bool> {
+fn common(table: bool, bag: bool) -> Option<bool> {
     if table == bag { Some(table) } else { None }
 }
 
 // The words for what both stores answered, or that they differ.
-fn told(agreed: Option<bool>, good: &'static str, bad: &'static str) -> &'static str {
-    match agreed {
+fn common_words(common: Option<bool>, good: &'static str, bad: &'static str) -> &'static str {
+    match common {
         Some(true) => good,
         Some(false) => bad,
         None => "table and bag differ",
@@ -70,7 +70,7 @@ impl<'a> Both<'a> {
     {
         let table = self.table.put(schedule).is_ok();
         let bag = self.bag.put(schedule).is_ok();
-        agreed(table, bag)
+        common(table, bag)
     }
 
     // Takes a key out of both stores.
@@ -79,25 +79,25 @@ impl<'a> Both<'a> {
     {
         let table = self.table.remove(key);
         let bag = self.bag.remove(key);
-        agreed(table, bag)
+        common(table, bag)
     }
 
     // Does what is asked to both stores, and prints what came of it.
-    fn do_asked(&mut self, rt: &HostRuntime, asked: Asked) -> anyhow::Result<()>
+    fn do_request(&mut self, rt: &HostRuntime, request: StoreRequest) -> anyhow::Result<()>
         ensures { CapacitiesKept self.old self.new }
     {
-        match asked {
-            Asked::Put(schedule) => {
-                let result = told(self.put(schedule), "done", "refused, the store is full");
+        match request {
+            StoreRequest::Put(schedule) => {
+                let result = common_words(self.put(schedule), "done", "refused, the store is full");
                 let key = KeyWords(schedule.key());
                 println!(rt; "put {key}: {result}")?;
             }
-            Asked::Unfit(key) => {
+            StoreRequest::Unfit(key) => {
                 let key = KeyWords(key);
                 println!(rt; "put {key}: not a schedule")?;
             }
-            Asked::Remove(key) => {
-                let result = told(self.remove(key), "yes", "no");
+            StoreRequest::Remove(key) => {
+                let result = common_words(self.remove(key), "yes", "no");
                 let key = KeyWords(key);
                 println!(rt; "remove {key}: {result}")?;
             }
@@ -113,9 +113,9 @@ impl<'a> Both<'a> {
         let mut draft = Draft::new();
         for row in Rows::new(bytes.as_slice()) {
             if let Ok(content) = read(row)
-                && let Some(asked) = draft.take(content)
+                && let Some(request) = draft.take(content)
             {
-                self.do_asked(rt, asked)?;
+                self.do_request(rt, request)?;
             }
         }
         Ok(())

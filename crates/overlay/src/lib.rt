@@ -2,7 +2,6 @@
 #![tactic(auto)]
 
 pub mod as_timetable;
-pub mod asking;
 pub mod joining;
 pub mod last;
 pub mod laws;
