@@ -23,7 +23,8 @@ pub record Added (station : List ℕ) (r : Record) (p : ℕ) (xs ys : List Line)
   pub kept : (l : Line) → On xs l → On ys l
   pub every : (l : Line) → l.key.place < p → line_at station r l.key.place ≡ Some l → On ys l
   pub few : length ys ≤ length xs + visits station (take p r.calls)
-  pub distinct : has_distinct_keys line_before line_key xs ≡ true → has_distinct_keys line_before line_key ys ≡ true
+  pub distinct : has_distinct_keys line_before line_key xs ≡ true
+      → has_distinct_keys line_before line_key ys ≡ true
 
 -- no line of xs is of a train
 abbrev pub Fresh : List Line → ℕ → Type 0
@@ -51,7 +52,8 @@ pub record Trained (m : List Record) (station : List ℕ) (day uid : ℕ) (xs ys
   pub kept : (l : Line) → On xs l → On ys l
   pub every : (l : Line) → IsLine m station day l → l.key.uid ≡ uid → On ys l
   pub few : length ys ≤ length xs + 2
-  pub distinct : has_distinct_keys line_before line_key xs ≡ true → has_distinct_keys line_before line_key ys ≡ true
+  pub distinct : has_distinct_keys line_before line_key xs ≡ true
+      → has_distinct_keys line_before line_key ys ≡ true
 
 -- all lines, and no other
 pub record AllLines (m : List Record) (station : List ℕ) (day : ℕ) (ys : List Line) : Type 0 where

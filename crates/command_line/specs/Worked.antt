@@ -40,7 +40,8 @@ pub record Options : Type 0 where
   pub stores : request_by_line (codes "stores --capacity 65536 week.cif") ≡ Some (stores 65536 week)
   pub run : request_by_line (codes "run HALTA --store bag 240304 week.cif --capacity=7")
       ≡ Some (run (board_with Bag 7 (codes "HALTA") (codes "240304")) week)
-  pub extract : request_by_line (codes "extract --base=week.cif --store table HALTA 240304 week.cif")
+  pub extract :
+      request_by_line (codes "extract --base=week.cif --store table HALTA 240304 week.cif")
       ≡ Some (extract (Some (codes "week.cif")) usual_board week)
 
 -- wrong words, and those that ask for help or the version

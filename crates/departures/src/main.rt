@@ -2,12 +2,12 @@
 #![tactic(auto)]
 
 use command_line::{NoTask, tasks_in};
-use feeding::extracts::Extracts;
-use feeding::follow::Followed;
-use feeding::{extracts, follow, replay};
-use listing::error::TaskError;
-use listing::keeping::Both;
-use listing::{boards, keeping, rows};
+use controller_tasks::extracts::Extracts;
+use controller_tasks::follow::Followed;
+use controller_tasks::{extracts, follow, replay};
+use list_tasks::error::TaskError;
+use list_tasks::keeping::Both;
+use list_tasks::{boards, keeping, rows};
 use std::env;
 use std::process::ExitCode;
 use stores::{Bag, Table};

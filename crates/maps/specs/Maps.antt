@@ -22,13 +22,15 @@ module _ {E K : Type 0} (before : K → K → Bool) (key : E → K) where
   abbrev pub with_element : List E → E → List E
   with_element [] x = x ∷ []
   with_element (y ∷ ys) x =
-      if before (key y) (key x) then y ∷ with_element ys x else (if before (key x) (key y) then x ∷ y ∷ ys else x ∷ ys)
+      if before (key y) (key x) then y ∷ with_element ys x
+      else (if before (key x) (key y) then x ∷ y ∷ ys else x ∷ ys)
 
   -- the map with no element of the key k
   abbrev pub without_element : List E → K → List E
   without_element [] k = []
   without_element (y ∷ ys) k =
-      if before (key y) k then y ∷ without_element ys k else (if before k (key y) then y ∷ ys else ys)
+      if before (key y) k then y ∷ without_element ys k
+      else (if before k (key y) then y ∷ ys else ys)
 
   -- the first key that is not before k
   abbrev pub ceiling : List E → K → Option K

@@ -106,7 +106,8 @@ impl Transaction {
 
     /// The transaction with a destination in the schedule that it brings.
     pub fn with_destination(self, destination: [u8; 7]) -> Transaction
-        ensures { change_of result ≡ bringing (λ s. with_destination s destination) (change_of self) }
+        ensures { change_of result
+            ≡ bringing (λ s. with_destination s destination) (change_of self) }
     {
         self.bringing(|schedule| schedule.with_destination(destination))
     }

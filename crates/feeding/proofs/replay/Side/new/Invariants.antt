@@ -1,7 +1,0 @@
-use Rattle.std.proofs.Common.{◌≡◌, map, take}
-use Rattle.runs.specs.Runs.{call_meant}
-use Rattle.scripts.specs.Steps.{call_of}
-use Rattle.feeding.proofs.replay.Side.new.Given as goal
-
-abbrev pub invariant-loop-step : goal.invariant-loop-step
-invariant-loop-step l = map call_meant l.calls.items ≡ map call_of (take l.step-index l.steps)

@@ -1,0 +1,202 @@
+//! The departure board of a station and date.
+ghost use Rattle.std.specs.Prelude.{◌≡◌, ◌*◌, min, length, IfOk};
+ghost use Rattle.board.specs.Boards.{lines_of};
+ghost use Rattle.list_tasks.specs.Stations.{filled_up};
+ghost use Rattle.list_tasks.specs.Blanks.{blank_line};
+
+use crate::drafts::{StoreRequest, Draft};
+use crate::error::{TaskError, read_file};
+use board::display::Board;
+use board::line::{Line, LineKey};
+use cif::reading::read;
+use cif::refusal::Refusal;
+use files::Rows;
+use std::alloc::AllocError;
+use tasks::Wanted;
+use timetable::{Store, Timetable};
+use wording::answers::LineWords;
+
+/// A line for slots that hold nothing yet.
+pub fn empty_line() -> Line
+    ensures { result ≡ blank_line }
+{
+    Line {
+        key: LineKey {
+            minute: 0,
+            uid: 0,
+            place: 0,
+        },
+        platform: *b"   ",
+        destination: *b"       ",
+        train: *b"    ",
+        operator: *b"  ",
+    }
+}
+
+/// Line slots for a board of a store: twice as many as it can hold schedules. The store stays as it
+/// was.
+pub fn line_slots<S: Store>(rt: &HostRuntime, store: &mut S) -> Result<Vec<Line>, AllocError>
+    ensures slots { IfOk result (λ slots. length slots.items ≡ 2 * (S.meaning store.old).capacity) }
+    ensures same { store.new ≡ store.old }
+{
+    vec![in rt.alloc(); empty_line(); 2 * store.capacity()]
+}
+
+// Does what a row asks, and says whether it was a put that was refused.
+fn is_refused<S: Store>(store: &mut S, request: StoreRequest) -> bool
+    ensures { (S.meaning store.new).capacity ≡ (S.meaning store.old).capacity }
+{
+    match request {
+        StoreRequest::Put(schedule) => store.put(schedule).is_err(),
+        StoreRequest::Unfit(_) => true,
+        StoreRequest::Remove(key) => {
+            let _ = store.remove(key);
+            false
+        }
+    }
+}
+
+/// Puts the schedules of a file into a store, and says how many were refused. Its capacity stays.
+pub fn load_file<S: Store>(rt: &HostRuntime, store: &mut S, name: &str) -> Result<u64, TaskError>
+    ensures { (S.meaning store.new).capacity ≡ (S.meaning store.old).capacity }
+{
+    let bytes = read_file(rt, name)?;
+    let mut draft = Draft::new();
+    let mut refused: u64 = 0;
+    for row in Rows::new(bytes.as_slice()) {
+        if let Ok(content) = read(row)
+            && let Some(request) = draft.take(content)
+            && is_refused(store, request)
+        {
+            refused = refused.saturating_add(1);
+        }
+    }
+    Ok(refused)
+}
+
+/// A station's name filled up with blanks to seven bytes, where it has one to seven. Any other is
+/// left as it is.
+pub fn filled(rt: &HostRuntime, station: &str) -> Result<Vec<u8>, AllocError>
+    ensures { IfOk result (λ name. name.items ≡ filled_up station.now) }
+{
+    let mut name = station.as_bytes().to_vec(rt.alloc())?;
+    if !name.is_empty() && name.len() < 7 {
+        name.resize(7, b' ')?;
+    }
+    Ok(name)
+}
+
+/// Prints a refusal by its number, after a word or none.
+pub fn print_refused(rt: &HostRuntime, before: &str, refusal: Refusal) -> anyhow::Result<()> {
+    let number = refusal.number();
+    println!(rt; "{before}refused {number}: {refusal}")?;
+    Ok(())
+}
+
+/// How many lines a board shows, of so many at the most. The board stays as it was.
+pub fn shown_lines(shown: &mut Board, most: usize) -> u64
+    ensures value { result ≡ min most (length (lines_of shown.old)) }
+    ensures same { shown.new ≡ shown.old }
+{
+    most.min(shown.len()) as u64
+}
+
+/// Prints the lines of a board in order, of so many at the most. The board stays as it was.
+pub fn print_each(rt: &HostRuntime, shown: &mut Board, most: usize) -> anyhow::Result<()>
+    ensures { shown.new ≡ shown.old }
+{
+    for place in 0..most {
+        let Some(line) = shown.tell(place) else {
+            break;
+        };
+        let words = LineWords(&line);
+        println!(rt; "{words}")?;
+    }
+    Ok(())
+}
+
+/// Prints the lines of a board in order, and how many there are, of so many at the most. The board
+/// stays as it was.
+pub fn print_lines(rt: &HostRuntime, shown: &mut Board, most: usize) -> anyhow::Result<()>
+    ensures { shown.new ≡ shown.old }
+{
+    print_each(rt, shown, most)?;
+    let lines = shown_lines(shown, most);
+    println!(rt; "lines {lines}")?;
+    Ok(())
+}
+
+// Turns a board to what is wanted so many times, if it can be turned to it. The store stays as it
+// was.
+fn turned<'b, S: Store>(
+    rt: &HostRuntime,
+    store: &mut S,
+    slots: &'b mut [Line],
+    wanted: Wanted,
+    times: u64,
+) -> anyhow::Result<Result<Board<'b>, Refusal>>
+    ensures { store.new ≡ store.old }
+{
+    let Some(day) = wanted.day() else {
+        return Ok(Err(Refusal::NoSuchBoard));
+    };
+    let station = filled(rt, wanted.station)?;
+    let mut shown = Board::new(slots);
+    for _ in 0..times {
+        if let Err(fault) = shown.turn(store, station.as_slice(), day) {
+            return Ok(Err(fault.refusal));
+        }
+    }
+    Ok(Ok(shown))
+}
+
+/// Turns a board to what is wanted and prints it, or why it cannot be turned. The store stays as it
+/// was.
+pub fn print_board<S: Store>(
+    rt: &HostRuntime,
+    store: &mut S,
+    slots: &mut [Line],
+    wanted: Wanted,
+    refused: u64,
+) -> anyhow::Result<()>
+    ensures { store.new ≡ store.old }
+{
+    let most = slots.len();
+    let mut shown = match turned(rt, store, slots, wanted, 1)? {
+        Ok(shown) => shown,
+        Err(refusal) => return print_refused(rt, "", refusal),
+    };
+    let Wanted {
+        store: kind,
+        station,
+        date,
+        ..
+    } = wanted;
+    let held = store.count();
+    let capacity = store.capacity();
+    println!(rt;
+        "board {station} {date}, store {kind}: {held} of {capacity} schedules, refused {refused}"
+    )?;
+    print_lines(rt, &mut shown, most)
+}
+
+/// Turns a board to what is wanted so many times, and prints how many lines it has. The store stays
+/// as it was.
+pub fn print_turns<S: Store>(
+    rt: &HostRuntime,
+    store: &mut S,
+    slots: &mut [Line],
+    wanted: Wanted,
+    times: u64,
+) -> anyhow::Result<()>
+    ensures { store.new ≡ store.old }
+{
+    let most = slots.len();
+    let mut shown = match turned(rt, store, slots, wanted, times)? {
+        Ok(shown) => shown,
+        Err(refusal) => return print_refused(rt, "", refusal),
+    };
+    let lines = shown_lines(&mut shown, most);
+    println!(rt; "turns {times}: lines {lines}")?;
+    Ok(())
+}

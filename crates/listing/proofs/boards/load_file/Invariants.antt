@@ -1,5 +1,0 @@
-use Rattle.std.proofs.Common.{◌≡◌}
-use Rattle.listing.proofs.boards.load_file.Given as goal
-
-abbrev pub invariant-loop-row : goal.invariant-loop-row
-invariant-loop-row g l = (g.S.Timetable.meaning l.store).capacity ≡ (g.S.Timetable.meaning l.initial.store).capacity

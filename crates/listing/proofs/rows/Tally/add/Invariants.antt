@@ -1,8 +1,0 @@
-use Rattle.std.proofs.Common.{◌≡◌, ℕ, ◌+◌, ◌<◌, ◌≤◌, slice_index}
-use Rattle.listing.specs.Tallies.{counted}
-use Rattle.listing.proofs.rows.Tally.add.Given as goal
-
-abbrev pub invariant-loop-k : goal.invariant-loop-k
-invariant-loop-k l =
-    ((j : ℕ) → j < l.k → slice_index l.count-items j ≡ counted (slice_index l.initial.count-items j + slice_index l.other.refused j))
-    × ((j : ℕ) → l.k ≤ j → slice_index l.count-items j ≡ slice_index l.initial.count-items j)
