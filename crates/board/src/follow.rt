@@ -1,6 +1,7 @@
 // A board that follows a store.
-ghost use Rattle.std.specs.Prelude.{◌≡◌, ◌*◌, ◌≤◌, length, OnOk, OnErr};
+ghost use Rattle.std.specs.Prelude.{◌≡◌, ◌*◌, ◌≤◌, length, OnOk};
 ghost use Rattle.cif.specs.Refusals.{uppermost, fault_of};
+ghost use Rattle.timetable.specs.Timetables.{IsWithinCapacity};
 ghost use Rattle.board.specs.Boards.{shown_of, lines_of, slots_of, SlotsKept};
 ghost use Rattle.board.specs.Lines.{LinesFor};
 ghost use Rattle.board.specs.Turning.{slot_lines};
@@ -16,7 +17,8 @@ impl Board<'_> {
     pub fn suits<S: Store>(&mut self, store: &mut S) -> Result<(), ColumnFault>
         ensures told { fault_of result
             ≡ uppermost (slot_lines (slots_of self.old) (S.meaning store.old).capacity) }
-        ensures enough { OnOk result (2 * length (S.meaning store.old).map ≤ slots_of self.old) }
+        ensures enough { OnOk result (2 * (S.meaning store.old).capacity ≤ slots_of self.old) }
+        ensures within { IsWithinCapacity (S.meaning store.old) }
         ensures same { self.new ≡ self.old }
         ensures store { store.new ≡ store.old }
     {
@@ -26,23 +28,19 @@ impl Board<'_> {
         Ok(())
     }
 
-    /// Sets the lines to those that the store's map gives for the board's station and day. Without a station there are none.
-    /// A board with too few line slots is refused with 15.
-    pub fn follow<S: Store>(&mut self, store: &mut S) -> Result<(), ColumnFault>
-        ensures told { fault_of result
-            ≡ uppermost (slot_lines (slots_of self.old) (S.meaning store.old).capacity) }
-        ensures lines { OnOk result
-            (LinesFor (S.meaning store.old).map (shown_of self.old) (lines_of self.new)) }
+    /// Sets the lines to those that a timetable's map gives for the board's station and day. Without a station there are none.
+    /// There are line slots enough, two for each key.
+    pub fn follow<T: Timetable>(&mut self, timetable: &mut T)
+        requires enough { 2 * length (T.meaning timetable.old).map ≤ slots_of self.old }
+        ensures lines {
+            LinesFor (T.meaning timetable.old).map (shown_of self.old) (lines_of self.new) }
         ensures shown { shown_of self.new ≡ shown_of self.old }
         ensures slots { SlotsKept self.old self.new }
-        ensures unchanged { OnErr result (self.new ≡ self.old) }
-        ensures same { store.new ≡ store.old }
+        ensures same { timetable.new ≡ timetable.old }
     {
-        self.suits(store)?;
         match self.shown {
-            Some(shown) => set_lines(store, &mut self.lines, &shown),
+            Some(shown) => set_lines(timetable, &mut self.lines, &shown),
             None => self.lines.elements.len = 0,
         }
-        Ok(())
     }
 }

@@ -137,6 +137,9 @@ impl<S: Store> Controller<S> {
     fn may_confirm(&mut self, board: &mut Board<'_>) -> Result<(), ColumnFault>
         ensures told { fault_of result
             ≡ uppermost (confirm_lines (standing_in S.meaning self.old) (slots_of board.old)) }
+        ensures enough { OnOk result
+            (2 * (S.meaning (store_of self.old)).capacity ≤ slots_of board.old) }
+        ensures within { OnOk result (IsWithinCapacity (S.meaning (store_of self.old))) }
         ensures same { (self.new ≡ self.old) × (board.new ≡ board.old) }
     {
         if self.extract.stage() != Stage::Complete {
@@ -170,7 +173,7 @@ impl<S: Store> Controller<S> {
         without_row(self.may_confirm(board))?;
         let count = self.overlay.pending.len() as u32;
         self.overlay.settle();
-        let _ = board.follow(&mut self.overlay.store);
+        board.follow(&mut self.overlay.store);
         self.reference = self.extract.current();
         self.extract = Extract::new();
         self.tally = self.tally.saturating_add(count);

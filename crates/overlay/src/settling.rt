@@ -1,6 +1,7 @@
 //! What is pending, done to the store.
 ghost use Rattle.std.specs.Prelude.{◌≡◌, true, [], length};
 ghost use Rattle.schedule.specs.Transactions.{is_lawful};
+ghost use Rattle.timetable.specs.Timetables.{IsWithinCapacity};
 ghost use Rattle.overlay.specs.Overlays.{pending_in};
 ghost use Rattle.overlay.specs.Settling.{after_try, after_tries};
 
@@ -13,7 +14,8 @@ use timetable::{Store, Timetable};
 // Does a transaction to a store.
 fn settle_one<S: Store>(store: &mut S, change: &Change)
     requires lawful { is_lawful change.now ≡ true }
-    ensures { S.meaning store.new ≡ after_try (S.meaning store.old) change.now }
+    ensures meaning { S.meaning store.new ≡ after_try (S.meaning store.old) change.now }
+    ensures within { IsWithinCapacity (S.meaning store.new) }
 {
     match schedule_left(change) {
         Some(schedule) => {
@@ -27,7 +29,9 @@ fn settle_one<S: Store>(store: &mut S, change: &Change)
 
 // Does transactions to a store in order, passing over what finds no room.
 fn settle_all<S: Store>(store: &mut S, changes: &Changes<'_>)
-    ensures { S.meaning store.new ≡ after_tries (S.meaning store.old) changes.now.list.now }
+    ensures meaning { S.meaning store.new ≡ after_tries (S.meaning store.old) changes.now.list.now }
+    ensures within { IsWithinCapacity (S.meaning store.old)
+        → IsWithinCapacity (S.meaning store.new) }
 {
     for change in changes.list {
         settle_one(store, change);
@@ -39,6 +43,8 @@ impl<S: Store> Overlay<S> {
     pub fn settle(&mut self)
         ensures store { S.meaning self.new.store
             ≡ after_tries (S.meaning self.old.store) (pending_in self.old.pending) }
+        ensures within { IsWithinCapacity (S.meaning self.old.store)
+            → IsWithinCapacity (S.meaning self.new.store) }
         ensures pending { pending_in self.new.pending ≡ [] }
     {
         settle_all(&mut self.store, &self.pending.all());
