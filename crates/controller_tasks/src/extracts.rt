@@ -14,7 +14,7 @@ use extract::stage::Stage;
 use files::Rows;
 use list_tasks::boards::{filled, line_slots, print_refused, shown_lines};
 use list_tasks::error::{TaskError, read_file};
-use list_tasks::rows::Tally;
+use list_tasks::rows::Counts;
 use std::alloc::AllocError;
 use tasks::{StoreKind, Wanted};
 use timetable::{Store, Timetable};
@@ -49,7 +49,7 @@ pub fn print_fault(rt: &HostRuntime, number: usize, fault: &ExtractFault) -> any
 pub struct Extracts<'a, S> {
     controller: Controller<S>,
     /// How many rows were taken, and how many were refused with each number.
-    pub tally: Tally,
+    pub counts: Counts,
     lines: Vec<Line>,
     wanted: Wanted<'a>,
 }
@@ -72,7 +72,7 @@ impl<'a, S: Store + Drop> Extracts<'a, S> {
         let lines = line_slots(rt, &mut store)?;
         Ok(Extracts {
             controller: Controller::new(store),
-            tally: Tally::new(),
+            counts: Counts::new(),
             lines,
             wanted,
         })
@@ -156,11 +156,11 @@ impl<'a, S: Store + Drop> Extracts<'a, S> {
     {
         match hand(&mut self.controller, row) {
             Ok(()) => {
-                self.tally.note_done();
+                self.counts.note_done();
                 self.print_taken(rt, number, row)
             }
             Err(fault) => {
-                self.tally.note_refused(fault.fault.fault.refusal);
+                self.counts.note_refused(fault.fault.fault.refusal);
                 print_fault(rt, number, &fault)
             }
         }

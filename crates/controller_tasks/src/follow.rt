@@ -12,7 +12,7 @@ use extract::stage::Stage;
 use files::Rows;
 use list_tasks::boards::{filled, print_lines, print_refused, shown_lines};
 use list_tasks::error::{TaskError, read_file};
-use list_tasks::rows::Tally;
+use list_tasks::rows::Counts;
 use tasks::{StoreKind, Wanted};
 use timetable::Store;
 
@@ -26,7 +26,7 @@ pub struct Followed<'a, 'b, S> {
     wanted: Wanted<'a>,
     refused: u64,
     /// How many rows were taken, and how many were refused with each number.
-    pub tally: Tally,
+    pub counts: Counts,
 }
 
 // What came of an extract.
@@ -43,7 +43,7 @@ impl<'a, 'b, S: Store + Drop> Followed<'a, 'b, S> {
     ghost use Rattle.extract.specs.Progress.{idle};
     ghost use Rattle.board.specs.Boards.{slots_of};
     ghost use Rattle.controller.specs.Shown.{store_of, progress_in};
-    ghost use Rattle.list_tasks.specs.Tallies.{counted};
+    ghost use Rattle.list_tasks.specs.Counts.{counted};
     ghost use Rattle.controller_tasks.specs.Following.{controller_of, board_of, is_idle, is_complete, Follows, SameStoreAndBoard};
 
     /// Over a store and line slots: no extract is open, and the board has no station.
@@ -60,7 +60,7 @@ impl<'a, 'b, S: Store + Drop> Followed<'a, 'b, S> {
             most,
             wanted,
             refused: 0,
-            tally: Tally::new(),
+            counts: Counts::new(),
         }
     }
 
@@ -184,9 +184,9 @@ impl<'a, 'b, S: Store + Drop> Followed<'a, 'b, S> {
         let is_open = self.controller.stage() != Stage::Idle;
         let heard = hand(&mut self.controller, row);
         match &heard {
-            Ok(()) => self.tally.note_done(),
+            Ok(()) => self.counts.note_done(),
             Err(fault) => {
-                self.tally.note_refused(fault.fault.fault.refusal);
+                self.counts.note_refused(fault.fault.fault.refusal);
                 if is_open {
                     self.refused = self.refused.saturating_add(1);
                 }

@@ -13,7 +13,7 @@ use controller::answer::Answer;
 use list_tasks::boards::{empty_line, print_each, shown_lines};
 use list_tasks::error::{TaskError, read_file};
 use list_tasks::keeping::empty_record;
-use list_tasks::rows::{Tally, print_calls};
+use list_tasks::rows::{Counts, print_calls};
 use runs::call::Call;
 use runs::plan::{Plan, Ran};
 use runs::run::run_both;
@@ -74,14 +74,14 @@ fn print_answers(
     rt: &HostRuntime,
     calls: &[Step],
     answers: &[Answer],
-    tally: &mut Tally,
+    counts: &mut Counts,
 ) -> anyhow::Result<()> {
     for (place, (step, answer)) in calls.iter().zip(answers).enumerate() {
         let number = place + 1;
         let word = step.word();
         let words = AnswerWords(answer);
         println!(rt; "{number} {word}: {words}")?;
-        tally.note_answer(answer);
+        counts.note_answer(answer);
     }
     Ok(())
 }
@@ -197,7 +197,7 @@ fn replay<S: Store + Drop, T: Store + Drop>(
     history: &History,
     first: S,
     second: T,
-    tally: &mut Tally,
+    counts: &mut Counts,
 ) -> anyhow::Result<()> {
     let calls = history.calls.as_slice();
     let others = history.others();
@@ -206,10 +206,10 @@ fn replay<S: Store + Drop, T: Store + Drop>(
     let (table, bag) = run_both(table.plan(first), bag.plan(second));
     let mut table = ran(table)?;
     let mut bag = ran(bag)?;
-    print_answers(rt, calls, table.answers, tally)?;
+    print_answers(rt, calls, table.answers, counts)?;
     if history.other.is_some() {
         println!(rt; "other")?;
-        print_answers(rt, others, bag.answers, tally)?;
+        print_answers(rt, others, bag.answers, counts)?;
     }
     print_ends(rt, history, &mut table, &mut bag)
 }
@@ -219,14 +219,14 @@ fn replay_over_both(
     rt: &HostRuntime,
     number: usize,
     history: &History,
-    tally: &mut Tally,
+    counts: &mut Counts,
 ) -> anyhow::Result<()> {
     let mut first = vec![in rt.alloc(); empty_record(); history.capacity]?;
     let mut second = vec![in rt.alloc(); empty_record(); history.capacity]?;
     let mut table = Table::new(first.as_mut_slice());
     let bag = Bag::new(second.as_mut_slice());
     print_head(rt, number, table.capacity(), history)?;
-    replay(rt, history, table, bag, tally)
+    replay(rt, history, table, bag, counts)
 }
 
 // The histories of a script, or an error that names the line that is none of a script.
@@ -251,10 +251,10 @@ pub fn print_script(rt: &HostRuntime, name: &str) -> Result<(), TaskError> {
     let script = read_file(rt, name)?;
     let histories = histories_of(rt, name, script.as_slice())?;
     println!(rt; "script {name}")?;
-    let mut tally = Tally::new();
+    let mut counts = Counts::new();
     for (place, history) in histories.iter().enumerate() {
-        replay_over_both(rt, place + 1, history, &mut tally)?;
+        replay_over_both(rt, place + 1, history, &mut counts)?;
     }
-    print_calls(rt, histories.len() as u64, &tally)?;
+    print_calls(rt, histories.len() as u64, &counts)?;
     Ok(())
 }

@@ -15,10 +15,10 @@ use tasks::{StoreKind, Task, Wanted, Work};
 use timetable::Store;
 
 fn run_rows(rt: &HostRuntime, files: &[&str]) -> Result<(), TaskError> {
-    let mut total = rows::Tally::new();
+    let mut total = rows::Counts::new();
     for name in files {
-        let tally = rows::print_file(rt, name)?;
-        total.add(&tally);
+        let counts = rows::print_file(rt, name)?;
+        total.add(&counts);
     }
     rows::print_total(rt, files.len() as u64, &total)?;
     Ok(())
@@ -112,7 +112,7 @@ fn run_extracts<S: Store + Drop>(
     for name in files {
         extracts.take_file(rt, name)?;
     }
-    rows::print_outcome(rt, files.len() as u64, "done", &extracts.tally)?;
+    rows::print_outcome(rt, files.len() as u64, "done", &extracts.counts)?;
     Ok(())
 }
 
@@ -131,7 +131,7 @@ fn run_followed<S: Store + Drop>(
         followed.take_file(rt, name)?;
     }
     followed.print_board(rt)?;
-    rows::print_outcome(rt, files.len() as u64, "done", &followed.tally)?;
+    rows::print_outcome(rt, files.len() as u64, "done", &followed.counts)?;
     Ok(())
 }
 

@@ -32,22 +32,22 @@ const REFUSALS: [Refusal; 15] = [
 /// How many rows or calls were done, and how many were refused with each number. A count that has
 /// come to 18,446,744,073,709,551,615 stays there.
 #[derive(Clone, Copy)]
-pub struct Tally {
+pub struct Counts {
     done: u64,
     refused: [u64; 16],
 }
 
-impl Tally {
+impl Counts {
     ghost use Rattle.std.specs.Prelude.{◌≡◌, ℕ, ◌+◌, ◌<◌, OnOk, IfErr, IfSome, IfNone};
     ghost use Rattle.cif.specs.Refusals.{number_of};
-    ghost use Rattle.list_tasks.specs.Tallies.{counted, done_count, refused_count, refused_total, with_done, with_refused, refusal_told};
+    ghost use Rattle.list_tasks.specs.Counts.{counted, done_count, refused_count, refused_total, with_done, with_refused, refusal_told};
 
     /// Nothing was done or refused.
-    pub fn new() -> Tally
+    pub fn new() -> Counts
         ensures done { done_count result ≡ 0 }
         ensures refused { (number : ℕ) → refused_count result number ≡ 0 }
     {
-        Tally {
+        Counts {
             done: 0,
             refused: [0; 16],
         }
@@ -92,8 +92,8 @@ impl Tally {
         }
     }
 
-    /// Adds the counts of another tally.
-    pub fn add(&mut self, other: &Tally)
+    /// Adds other counts to them, each to its own.
+    pub fn add(&mut self, other: &Counts)
         ensures done { done_count self.new ≡ counted (done_count self.old + done_count other.now) }
         ensures refused { (number : ℕ) → number < 16
             → refused_count self.new number
@@ -148,27 +148,27 @@ fn write_row<W: Write + Drop>(
     }
 }
 
-/// Prints each row of a file, and how many there were, and gives the tally of them.
-pub fn print_file(rt: &HostRuntime, name: &str) -> Result<Tally, TaskError> {
+/// Prints each row of a file, and how many there were, and gives how many were read and refused.
+pub fn print_file(rt: &HostRuntime, name: &str) -> Result<Counts, TaskError> {
     let bytes = read_file(rt, name)?;
     let mut out = BufWriter::new(rt.alloc(), io::writer(rt))?;
     writeln!(out, "file {name}")?;
-    let mut tally = Tally::new();
+    let mut counts = Counts::new();
     for (place, row) in Rows::new(bytes.as_slice()).enumerate() {
         let outcome = read(row);
-        tally.note(&outcome);
+        counts.note(&outcome);
         write_row(&mut out, place + 1, &outcome)?;
     }
-    let rows = tally.rows();
-    let read = tally.done;
-    let refused = tally.all_refused();
+    let rows = counts.rows();
+    let read = counts.done;
+    let refused = counts.all_refused();
     writeln!(out, "rows {rows}: read {read}, refused {refused}")?;
     out.flush()?;
-    Ok(tally)
+    Ok(counts)
 }
 
 /// Prints what came of the rows of all files, and each number that was told.
-pub fn print_total(rt: &HostRuntime, files: u64, total: &Tally) -> anyhow::Result<()> {
+pub fn print_total(rt: &HostRuntime, files: u64, total: &Counts) -> anyhow::Result<()> {
     print_outcome(rt, files, "read", total)
 }
 
@@ -177,7 +177,7 @@ pub fn print_outcome(
     rt: &HostRuntime,
     files: u64,
     verb: &str,
-    total: &Tally,
+    total: &Counts,
 ) -> anyhow::Result<()> {
     let rows = total.rows();
     let done = total.done;
@@ -187,7 +187,7 @@ pub fn print_outcome(
 }
 
 /// Prints what came of the calls of all histories, and each number that was told.
-pub fn print_calls(rt: &HostRuntime, histories: u64, total: &Tally) -> anyhow::Result<()> {
+pub fn print_calls(rt: &HostRuntime, histories: u64, total: &Counts) -> anyhow::Result<()> {
     let calls = total.rows();
     let done = total.done;
     let refused = total.all_refused();
@@ -196,7 +196,7 @@ pub fn print_calls(rt: &HostRuntime, histories: u64, total: &Tally) -> anyhow::R
 }
 
 // Prints each number that was told, with how many times.
-fn print_refusals(rt: &HostRuntime, total: &Tally) -> anyhow::Result<()> {
+fn print_refusals(rt: &HostRuntime, total: &Counts) -> anyhow::Result<()> {
     for refusal in REFUSALS {
         let number = refusal.number();
         let count = total.times(refusal);

@@ -1,6 +1,6 @@
 use Rattle.std.proofs.Common.{◌≡◌, ℕ, ◌+◌, ◌<◌, ◌≤◌, slice_index}
-use Rattle.list_tasks.specs.Tallies.{counted}
-use Rattle.list_tasks.proofs.rows.Tally.add.Given as goal
+use Rattle.list_tasks.specs.Counts.{counted}
+use Rattle.list_tasks.proofs.rows.Counts.add.Given as goal
 
 abbrev pub invariant-loop-k : goal.invariant-loop-k
 invariant-loop-k l =
