@@ -1,11 +1,12 @@
 //! The command line as `clap` reads it: the tasks with their arguments, and what help says of them.
 ghost use Rattle.std.specs.Prelude.{◌≡◌, false, codes, IfOk};
+ghost use Rattle.clap.specs.Simple.{App};
 ghost use Rattle.clap.specs.Words.{app_of, rule_of};
 ghost use Rattle.command_line.specs.Commands.{IsCommand, base_rule, capacity_rule, count_rule, date_rule};
 ghost use Rattle.command_line.specs.Commands.{files_rule, station_rule, store_rule, over_store};
 ghost use Rattle.command_line.specs.Commands.{run_command, replay_command, rows_command, stores_command};
 ghost use Rattle.command_line.specs.Commands.{board_command, turns_command, extract_command};
-ghost use Rattle.command_line.specs.Commands.{IsLocal, departures, program, with_board};
+ghost use Rattle.command_line.specs.Commands.{IsLocal, departures, program, with_board, with_task};
 
 use clap::builder::ValueParser;
 use clap::{Arg, Command};
@@ -232,16 +233,27 @@ fn program<'a>(alloc: Global) -> Result<Command<'a>, AllocError>
     )
 }
 
+// A command with a task.
+fn with_task<'a>(
+    command: Result<Command<'a>, AllocError>,
+    task: Result<Command<'a>, AllocError>,
+) -> Result<Command<'a>, AllocError>
+    ensures { (a t : App) → IfOk command.entry (λ c. IsCommand c a)
+        → IfOk task.entry (λ c. IsCommand c t)
+        → IfOk result (λ c. IsCommand c (with_task a t)) }
+{
+    command?.subcommand(task?)
+}
+
 // The program with its tasks.
 pub(crate) fn departures<'a>(alloc: Global) -> Result<Command<'a>, AllocError>
     ensures { IfOk result (λ c. IsCommand c departures) }
 {
-    program(alloc)?
-        .subcommand(run_command(alloc)?)?
-        .subcommand(replay_command(alloc)?)?
-        .subcommand(rows_command(alloc)?)?
-        .subcommand(stores_command(alloc)?)?
-        .subcommand(board_command(alloc)?)?
-        .subcommand(turns_command(alloc)?)?
-        .subcommand(extract_command(alloc)?)
+    let command = with_task(program(alloc), run_command(alloc));
+    let command = with_task(command, replay_command(alloc));
+    let command = with_task(command, rows_command(alloc));
+    let command = with_task(command, stores_command(alloc));
+    let command = with_task(command, board_command(alloc));
+    let command = with_task(command, turns_command(alloc));
+    with_task(command, extract_command(alloc))
 }

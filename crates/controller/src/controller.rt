@@ -25,7 +25,7 @@ pub struct Controller<S> {
 }
 
 impl<S: Store> Controller<S> {
-    ghost use Rattle.std.specs.Prelude.{[], None, OnOk, OnErr, ◌+◌, min, Some};
+    ghost use Rattle.std.specs.Prelude.{[], None, OnOk, OnErr, ◌+◌, ◌*◌, ◌≤◌, min, Some};
     ghost use Rattle.cif.specs.Refusals.{fault_of, uppermost};
     ghost use Rattle.schedule.specs.Records.{seven_blanks};
     ghost use Rattle.board.specs.declared.display.Board.{Board};
