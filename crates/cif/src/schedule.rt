@@ -1,12 +1,14 @@
 // Rows that begin a schedule.
 ghost use Rattle.std.specs.Prelude.{◌≡◌};
+ghost use Rattle.cif.specs.Refusals.{field_at};
+ghost use Rattle.cif.specs.Fields.{transaction_of, uid_of, from_of, stp_of};
 ghost use Rattle.cif.specs.Fields.{running_in, action_in, runs_on, schedule_in, operator_in};
 ghost use Rattle.cif.specs.WholeRows.{row_bytes};
 
 use crate::content::{BasicSchedule, Action, Running};
 use crate::refusal::{ColumnFault, Refusal};
 use crate::row::Row;
-use forms::letters::TransactionType;
+use forms::letters::{Stp, TransactionType};
 use forms::numbers::{date, uid};
 use forms::text::{Alphabet, days_run, text};
 
@@ -44,16 +46,44 @@ impl Row {
         }
     }
 
+    // The transaction type, at column 3.
+    fn transaction_field(&self) -> Result<TransactionType, ColumnFault>
+        ensures { result ≡ field_at 3 (transaction_of (row_bytes self.now)) }
+    {
+        self.letter(3)
+    }
+
+    // The UID number, from column 4 on.
+    fn uid_field(&self) -> Result<u32, ColumnFault>
+        ensures { result ≡ field_at 4 (uid_of (row_bytes self.now)) }
+    {
+        self.field(4, 9, uid)
+    }
+
+    // The first day, from column 10 on.
+    fn from_field(&self) -> Result<(u16, u8), ColumnFault>
+        ensures { result ≡ field_at 10 (from_of (row_bytes self.now)) }
+    {
+        self.field(10, 15, date)
+    }
+
+    // The kind of schedule, at column 80.
+    fn stp_field(&self) -> Result<Stp, ColumnFault>
+        ensures { result ≡ field_at 80 (stp_of (row_bytes self.now)) }
+    {
+        self.letter(80)
+    }
+
     /// The fields of a BS row, or its first fault: of the fields without their form the leftmost, or else that it runs from a later
     /// day than it runs to.
     pub fn basic_schedule(&self) -> Result<BasicSchedule, ColumnFault>
         ensures { result ≡ schedule_in (row_bytes self.now) }
     {
-        let transaction = self.letter(3)?;
-        let uid = self.field(4, 9, uid)?;
-        let from = self.field(10, 15, date)?;
+        let transaction = self.transaction_field()?;
+        let uid = self.uid_field()?;
+        let from = self.from_field()?;
         let action = self.action(transaction)?;
-        let stp = self.letter(80)?;
+        let stp = self.stp_field()?;
         if !action.runs_on(from) {
             return Err(Refusal::EndsBeforeStart.at(16));
         }
