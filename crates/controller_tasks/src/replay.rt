@@ -2,7 +2,7 @@
 ghost use Rattle.std.specs.Prelude.{◌≡◌, ℕ, ◌<◌, ◌↔◌, IsTrue, IfOk, Ok, length, map, slice_get, IfErr, Err};
 ghost use Rattle.board.specs.Boards.{lines_of};
 ghost use Rattle.runs.specs.Runs.{call_meant};
-ghost use Rattle.scripts.specs.Histories.{told, histories_of};
+ghost use Rattle.scripts.specs.Histories.{history_of, histories_of};
 ghost use Rattle.scripts.specs.Steps.{call_of};
 ghost use Rattle.list_tasks.specs.Errors.{NamesLine};
 
@@ -232,7 +232,7 @@ fn replay_over_both(
 // The histories of a script, or an error that names the line that is none of a script.
 fn histories_of(rt: &HostRuntime, name: &str, script: &[u8]) -> Result<Vec<History>, TaskError>
     ensures histories { IfOk result (λ histories.
-        histories_of script.now ≡ Ok (map told histories.items)) }
+        histories_of script.now ≡ Ok (map history_of histories.items)) }
     ensures slip { IfErr result (NamesLine name.now (λ number.
         histories_of script.now ≡ Err number)) }
 {
