@@ -45,6 +45,10 @@ files_rule = record (required_rule (codes "files")) {
   range = Some (record { start_inclusive = 1; end_inclusive = usize_max });
 }
 
+-- a command over files alone, by its name
+abbrev pub over_files : Text → App
+over_files name = with_rule (new_app name) files_rule
+
 -- a command over one store, by its name
 abbrev pub over_store : Text → App
 over_store name = with_rule (with_rule (new_app name) store_rule) capacity_rule
@@ -57,10 +61,10 @@ abbrev pub run_command : App
 run_command = with_board (over_store (codes "run"))
 
 abbrev pub replay_command : App
-replay_command = with_rule (new_app (codes "replay")) files_rule
+replay_command = over_files (codes "replay")
 
 abbrev pub rows_command : App
-rows_command = with_rule (new_app (codes "rows")) files_rule
+rows_command = over_files (codes "rows")
 
 abbrev pub stores_command : App
 stores_command = with_rule (with_rule (new_app (codes "stores")) capacity_rule) files_rule

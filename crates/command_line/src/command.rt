@@ -2,8 +2,8 @@
 ghost use Rattle.std.specs.Prelude.{◌≡◌, false, codes, IfOk};
 ghost use Rattle.clap.specs.Simple.{App};
 ghost use Rattle.clap.specs.Words.{app_of, rule_of};
-ghost use Rattle.command_line.specs.Commands.{IsCommand, base_rule, capacity_rule, count_rule, date_rule};
-ghost use Rattle.command_line.specs.Commands.{files_rule, station_rule, store_rule, over_store};
+ghost use Rattle.command_line.specs.Commands.{IsCommand, base_rule, capacity_rule, count_rule};
+ghost use Rattle.command_line.specs.Commands.{files_rule, required_rule, store_rule, over_files, over_store};
 ghost use Rattle.command_line.specs.Commands.{run_command, replay_command, rows_command, stores_command};
 ghost use Rattle.command_line.specs.Commands.{board_command, turns_command, extract_command};
 ghost use Rattle.command_line.specs.Commands.{IsLocal, departures, program, with_board, with_task};
@@ -47,38 +47,29 @@ fn base_option<'a>(alloc: Global) -> Arg<'a>
     )
 }
 
+// An argument with one value, which has to be given.
+fn required_argument<'a>(
+    alloc: Global,
+    id: &'a str,
+    value_name: &'a str,
+    help: &'a str,
+) -> Arg<'a>
+    ensures rule { rule_of result ≡ required_rule id.entry.now }
+    ensures local { result.global ≡ false }
+{
+    Arg::new(alloc, id)
+        .value_name(value_name)
+        .required(true)
+        .help(help)
+}
+
 // How many times a board is turned.
 fn count_argument<'a>(alloc: Global) -> Arg<'a>
     ensures rule { rule_of result ≡ count_rule }
     ensures local { result.global ≡ false }
 {
-    Arg::new(alloc, "count")
-        .value_name("COUNT")
-        .required(true)
+    required_argument(alloc, "count", "COUNT", "How many times the board is turned")
         .value_parser(ValueParser::unsigned(0, u64::MAX))
-        .help("How many times the board is turned")
-}
-
-// The station of a board.
-fn station_argument<'a>(alloc: Global) -> Arg<'a>
-    ensures rule { rule_of result ≡ station_rule }
-    ensures local { result.global ≡ false }
-{
-    Arg::new(alloc, "station")
-        .value_name("STATION")
-        .required(true)
-        .help("The station of the board: a TIPLOC of one to seven letters or digits")
-}
-
-// The date of a board.
-fn date_argument<'a>(alloc: Global) -> Arg<'a>
-    ensures rule { rule_of result ≡ date_rule }
-    ensures local { result.global ≡ false }
-{
-    Arg::new(alloc, "date")
-        .value_name("DATE")
-        .required(true)
-        .help("The date of the board, as YYMMDD")
 }
 
 // The files of a task, one at least.
@@ -86,11 +77,7 @@ fn files_argument<'a>(alloc: Global, value_name: &'a str, help: &'a str) -> Arg<
     ensures rule { rule_of result ≡ files_rule }
     ensures local { result.global ≡ false }
 {
-    Arg::new(alloc, "files")
-        .value_name(value_name)
-        .required(true)
-        .num_args(1..)
-        .help(help)
+    required_argument(alloc, "files", value_name, help).num_args(1..)
 }
 
 // Files of rows.
@@ -127,8 +114,18 @@ fn with_board<'a>(alloc: Global, command: Command<'a>) -> Result<Command<'a>, Al
     ensures { IfOk result (λ c. IsCommand c (with_board (app_of command.entry))) }
 {
     command
-        .arg(station_argument(alloc))?
-        .arg(date_argument(alloc))?
+        .arg(required_argument(
+            alloc,
+            "station",
+            "STATION",
+            "The station of the board: a TIPLOC of one to seven letters or digits",
+        ))?
+        .arg(required_argument(
+            alloc,
+            "date",
+            "DATE",
+            "The date of the board, as YYMMDD",
+        ))?
         .arg(row_files_argument(alloc))
 }
 
@@ -144,22 +141,46 @@ fn run_command<'a>(alloc: Global) -> Result<Command<'a>, AllocError>
     with_board(alloc, run)
 }
 
+// A task over files alone.
+fn over_files<'a>(
+    alloc: Global,
+    name: &'a str,
+    about: &'a str,
+    after_help: &'a str,
+    files: Arg<'a>,
+) -> Result<Command<'a>, AllocError>
+    requires rule { rule_of files ≡ files_rule }
+    requires local { files.global ≡ false }
+    ensures { IfOk result (λ c. IsCommand c (over_files name.entry.now)) }
+{
+    Command::new(alloc, name)
+        .about(about)
+        .after_help(after_help)
+        .arg(files)
+}
+
 fn replay_command<'a>(alloc: Global) -> Result<Command<'a>, AllocError>
     ensures { IfOk result (λ c. IsCommand c replay_command) }
 {
-    Command::new(alloc, "replay")
-        .about("Do the calls of scripts to controllers over both stores side by side")
-        .after_help("Example:\n  departures replay example.calls")
-        .arg(files_argument(alloc, "SCRIPT", "A script of calls, or several"))
+    over_files(
+        alloc,
+        "replay",
+        "Do the calls of scripts to controllers over both stores side by side",
+        "Example:\n  departures replay example.calls",
+        files_argument(alloc, "SCRIPT", "A script of calls, or several"),
+    )
 }
 
 fn rows_command<'a>(alloc: Global) -> Result<Command<'a>, AllocError>
     ensures { IfOk result (λ c. IsCommand c rows_command) }
 {
-    Command::new(alloc, "rows")
-        .about("Tell what each row of files holds, or why it is turned away")
-        .after_help("Example:\n  departures rows week.cif")
-        .arg(row_files_argument(alloc))
+    over_files(
+        alloc,
+        "rows",
+        "Tell what each row of files holds, or why it is turned away",
+        "Example:\n  departures rows week.cif",
+        row_files_argument(alloc),
+    )
 }
 
 fn stores_command<'a>(alloc: Global) -> Result<Command<'a>, AllocError>
