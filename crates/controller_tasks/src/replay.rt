@@ -130,6 +130,37 @@ fn is_same(left: &mut Board, right: &mut Board, most: usize) -> bool
     true
 }
 
+// Prints what the bag's controller tells after calls of its own, and whether both boards show the
+// same.
+fn print_other<T: Store>(
+    rt: &HostRuntime,
+    bag: &mut Ran<'_, T>,
+    most: usize,
+    same: bool,
+) -> anyhow::Result<()> {
+    print_end(rt, "bag", bag, most)?;
+    let verdict = if same { "the same" } else { "different" };
+    println!(rt; "boards: {verdict}")?;
+    Ok(())
+}
+
+// Prints whether the bag's controller answered the same calls with the same, and whether both
+// boards show the same.
+fn print_compared(rt: &HostRuntime, answers: bool, board: bool) -> anyhow::Result<()> {
+    let answers = if answers {
+        "the same answers"
+    } else {
+        "other answers"
+    };
+    let board = if board {
+        "the same board"
+    } else {
+        "another board"
+    };
+    println!(rt; "bag: {answers}, {board}")?;
+    Ok(())
+}
+
 // Prints what both controllers and boards tell after the calls, and whether they tell the same.
 fn print_ends<S: Store, T: Store>(
     rt: &HostRuntime,
@@ -145,23 +176,9 @@ fn print_ends<S: Store, T: Store>(
         most,
     );
     if history.other.is_some() {
-        print_end(rt, "bag", bag, most)?;
-        let verdict = if same { "the same" } else { "different" };
-        println!(rt; "boards: {verdict}")?;
-    } else {
-        let answers = if &*table.answers == &*bag.answers {
-            "the same answers"
-        } else {
-            "other answers"
-        };
-        let board = if same {
-            "the same board"
-        } else {
-            "another board"
-        };
-        println!(rt; "bag: {answers}, {board}")?;
+        return print_other(rt, bag, most, same);
     }
-    Ok(())
+    print_compared(rt, &*table.answers == &*bag.answers, same)
 }
 
 // Prints how a history begins, and how many calls it has.
@@ -191,6 +208,22 @@ fn ran<'a, S: Drop>(outcome: Result<Ran<'a, S>, Plan<'a, S>>) -> anyhow::Result<
     }
 }
 
+// Prints what came of the calls of a history over two stores.
+fn print_both<S: Store, T: Store>(
+    rt: &HostRuntime,
+    history: &History,
+    table: &mut Ran<'_, S>,
+    bag: &mut Ran<'_, T>,
+    counts: &mut Counts,
+) -> anyhow::Result<()> {
+    print_answers(rt, history.calls.as_slice(), table.answers, counts)?;
+    if history.other.is_some() {
+        println!(rt; "other")?;
+        print_answers(rt, history.others(), bag.answers, counts)?;
+    }
+    print_ends(rt, history, table, bag)
+}
+
 // Does the calls of a history over two stores, and prints what came of them.
 fn replay<S: Store + Drop, T: Store + Drop>(
     rt: &HostRuntime,
@@ -199,19 +232,12 @@ fn replay<S: Store + Drop, T: Store + Drop>(
     second: T,
     counts: &mut Counts,
 ) -> anyhow::Result<()> {
-    let calls = history.calls.as_slice();
-    let others = history.others();
-    let mut table = Side::new(rt, history, calls)?;
-    let mut bag = Side::new(rt, history, others)?;
+    let mut table = Side::new(rt, history, history.calls.as_slice())?;
+    let mut bag = Side::new(rt, history, history.others())?;
     let (table, bag) = run_both(table.plan(first), bag.plan(second));
     let mut table = ran(table)?;
     let mut bag = ran(bag)?;
-    print_answers(rt, calls, table.answers, counts)?;
-    if history.other.is_some() {
-        println!(rt; "other")?;
-        print_answers(rt, others, bag.answers, counts)?;
-    }
-    print_ends(rt, history, &mut table, &mut bag)
+    print_both(rt, history, &mut table, &mut bag, counts)
 }
 
 // Does the calls of a history over a table and a bag, and prints what came of them.
