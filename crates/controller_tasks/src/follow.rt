@@ -195,12 +195,28 @@ impl<'a, 'b, S: Store + Drop> Followed<'a, 'b, S> {
         heard
     }
 
-    // Hands a row over, and prints why it was refused if it was.
+    // Hands a row over, prints why it was refused if it was, and ends an extract that is complete.
     fn take_row(&mut self, rt: &HostRuntime, number: usize, row: &[u8]) -> anyhow::Result<()>
-        ensures { SameStoreAndBoard self.old self.new }
+        ensures { Follows S.meaning self.old → Follows S.meaning self.new }
     {
         if let Err(fault) = self.hear(row) {
             print_fault(rt, number, &fault)?;
+        }
+        if self.controller.stage() == Stage::Complete {
+            print!(rt; "row {number}: ")?;
+            self.end_extract(rt)?;
+        }
+        Ok(())
+    }
+
+    // Ends an extract that is open where its file ends.
+    fn end_file(&mut self, rt: &HostRuntime) -> anyhow::Result<()>
+        ensures follows { Follows S.meaning self.old → Follows S.meaning self.new }
+        ensures idle { OnOk result (IsTrue (is_idle (controller_of self.new))) }
+    {
+        if self.controller.stage() != Stage::Idle {
+            print!(rt; "end of file: ")?;
+            self.end_extract(rt)?;
         }
         Ok(())
     }
@@ -213,17 +229,9 @@ impl<'a, 'b, S: Store + Drop> Followed<'a, 'b, S> {
         let bytes = read_file(rt, name)?;
         println!(rt; "file {name}")?;
         for (place, row) in Rows::new(bytes.as_slice()).enumerate() {
-            let number = place + 1;
-            self.take_row(rt, number, row)?;
-            if self.controller.stage() == Stage::Complete {
-                print!(rt; "row {number}: ")?;
-                self.end_extract(rt)?;
-            }
+            self.take_row(rt, place + 1, row)?;
         }
-        if self.controller.stage() != Stage::Idle {
-            print!(rt; "end of file: ")?;
-            self.end_extract(rt)?;
-        }
+        self.end_file(rt)?;
         Ok(())
     }
 }
