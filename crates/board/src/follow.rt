@@ -32,8 +32,8 @@ impl Board<'_> {
     /// There are line slots enough, two for each key.
     pub fn follow<T: Timetable>(&mut self, timetable: &mut T)
         requires enough { 2 * length (T.meaning timetable.old).map ≤ slots_of self.old }
-        ensures lines {
-            LinesFor (T.meaning timetable.old).map (shown_of self.old) (lines_of self.new) }
+        ensures lines { LinesFor (T.meaning timetable.old).map (shown_of self.old)
+            (lines_of self.new) }
         ensures shown { shown_of self.new ≡ shown_of self.old }
         ensures slots { SlotsKept self.old self.new }
         ensures same { timetable.new ≡ timetable.old }

@@ -5,7 +5,7 @@ ghost use Rattle.cif.specs.Fields.{transaction_of, uid_of, from_of, stp_of};
 ghost use Rattle.cif.specs.Fields.{running_in, action_in, runs_on, schedule_in, operator_in};
 ghost use Rattle.cif.specs.WholeRows.{row_bytes};
 
-use crate::content::{BasicSchedule, Action, Running};
+use crate::content::{Action, BasicSchedule, Running};
 use crate::refusal::{ColumnFault, Refusal};
 use crate::row::Row;
 use forms::letters::{Stp, TransactionType};

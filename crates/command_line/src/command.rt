@@ -48,12 +48,7 @@ fn base_option<'a>(alloc: Global) -> Arg<'a>
 }
 
 // An argument with one value, which has to be given.
-fn required_argument<'a>(
-    alloc: Global,
-    id: &'a str,
-    value_name: &'a str,
-    help: &'a str,
-) -> Arg<'a>
+fn required_argument<'a>(alloc: Global, id: &'a str, value_name: &'a str, help: &'a str) -> Arg<'a>
     ensures rule { rule_of result ≡ required_rule id.entry.now }
     ensures local { result.global ≡ false }
 {
@@ -68,8 +63,13 @@ fn count_argument<'a>(alloc: Global) -> Arg<'a>
     ensures rule { rule_of result ≡ count_rule }
     ensures local { result.global ≡ false }
 {
-    required_argument(alloc, "count", "COUNT", "How many times the board is turned")
-        .value_parser(ValueParser::unsigned(0, u64::MAX))
+    required_argument(
+        alloc,
+        "count",
+        "COUNT",
+        "How many times the board is turned",
+    )
+    .value_parser(ValueParser::unsigned(0, u64::MAX))
 }
 
 // The files of a task, one at least.
@@ -120,12 +120,7 @@ fn with_board<'a>(alloc: Global, command: Command<'a>) -> Result<Command<'a>, Al
             "STATION",
             "The station of the board: a TIPLOC of one to seven letters or digits",
         ))?
-        .arg(required_argument(
-            alloc,
-            "date",
-            "DATE",
-            "The date of the board, as YYMMDD",
-        ))?
+        .arg(required_argument(alloc, "date", "DATE", "The date of the board, as YYMMDD"))?
         .arg(row_files_argument(alloc))
 }
 

@@ -1,7 +1,6 @@
 //! What is said in place of a task, word for word where it is the program's own.
 use command_line::{NoTask, tasks_in};
 use std::test::Fail;
-use tasks::Task;
 
 // The words of a line, with one blank between two.
 fn words_of(rt: &HostRuntime, line: &str) -> Result<Vec<String>, Fail> {
@@ -19,14 +18,6 @@ fn said_of(rt: &HostRuntime, line: &str) -> Result<NoTask, Fail> {
         Ok(_) => Err("a task".into()),
         Err(said) => Ok(said),
     }
-}
-
-#[test]
-fn two_tasks(rt: HostRuntime) -> Result<(), Fail> {
-    let words = words_of(&rt, "rows week.cif -- stores --capacity 3 week.cif")?;
-    let tasks = tasks_in(rt.alloc(), words.as_slice()).map_err(|_| "no task")?;
-    assert!(&rt; matches!(tasks.as_slice(), [Task::Rows(_), Task::Stores(3, _)]));
-    Ok(())
 }
 
 #[test]

@@ -9,9 +9,9 @@ ghost use Rattle.extract.specs.Stages.{next_stage, has_room, is_stage};
 ghost use Rattle.extract.specs.Judging.{Standing, verdict_on, GoesBy};
 ghost use Rattle.extract.specs.Standings.{progress_with, standing, range_in, StandsOn, Passes};
 
-use crate::transactions::is_brief;
 use crate::extract::Extract;
 use crate::stage::Stage;
+use crate::transactions::is_brief;
 use cif::content::{BasicSchedule, Location};
 use cif::refusal::ColumnFault;
 use overlay::overlay::Overlay;

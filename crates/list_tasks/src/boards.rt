@@ -4,7 +4,7 @@ ghost use Rattle.board.specs.Boards.{lines_of};
 ghost use Rattle.list_tasks.specs.Stations.{filled_up};
 ghost use Rattle.list_tasks.specs.Blanks.{blank_line};
 
-use crate::drafts::{StoreRequest, Draft};
+use crate::drafts::{Draft, StoreRequest};
 use crate::error::{TaskError, read_file};
 use board::display::Board;
 use board::line::{Line, LineKey};

@@ -2,7 +2,7 @@
 ghost use Rattle.std.specs.Prelude.{◌≡◌, min, [], length, IsTrue};
 ghost use Rattle.schedule.specs.Records.{is_schedule};
 
-use crate::drafts::{StoreRequest, Draft};
+use crate::drafts::{Draft, StoreRequest};
 use crate::error::{TaskError, read_file};
 use cif::reading::read;
 use files::Rows;

@@ -11,7 +11,7 @@ use Rattle.board.specs.Boards.{slots_of}
 use Rattle.board.specs.Lines.{LinesFor}
 use Rattle.controller.specs.declared.fault.ExtractFault.{ExtractFault}
 use Rattle.controller.specs.Calls.{Confirm, refusal_of}
-use Rattle.controller.specs.Shown.{store_of, standing_in}
+use Rattle.controller.specs.Shown.{store_of}
 use Rattle.controller.specs.Keeping.{State, state, state_in}
 use Rattle.controller.proofs.Called.{at_ok}
 use Rattle.controller.proofs.Kept.{obeys_done, keeps_confirmed, keeps_unnamed}
