@@ -89,9 +89,9 @@ pub struct Place {
 #[derive(Clone, Copy, Debug, PartialEq, Eq)]
 pub enum Unread {
     ChangeOnTheWay,
-    LocationInserted,
-    LocationAmended,
-    LocationDeleted,
+    TiplocInserted,
+    TiplocAmended,
+    TiplocDeleted,
     Association,
     Trailer,
 }
@@ -115,9 +115,9 @@ impl Row {
             Identity::Li => Row::Call(Call::read(fields)?),
             Identity::Lt => Row::Destination(Destination::read(fields)?),
             Identity::Cr => Row::Unread(Unread::ChangeOnTheWay),
-            Identity::Ti => Row::Unread(Unread::LocationInserted),
-            Identity::Ta => Row::Unread(Unread::LocationAmended),
-            Identity::Td => Row::Unread(Unread::LocationDeleted),
+            Identity::Ti => Row::Unread(Unread::TiplocInserted),
+            Identity::Ta => Row::Unread(Unread::TiplocAmended),
+            Identity::Td => Row::Unread(Unread::TiplocDeleted),
             Identity::Aa => Row::Unread(Unread::Association),
             Identity::Zz => Row::Unread(Unread::Trailer),
         })

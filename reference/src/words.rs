@@ -172,9 +172,9 @@ impl Display for Unread {
     fn fmt(&self, f: &mut Formatter<'_>) -> Result {
         f.write_str(match self {
             Unread::ChangeOnTheWay => "change on the way",
-            Unread::LocationInserted => "location inserted",
-            Unread::LocationAmended => "location amended",
-            Unread::LocationDeleted => "location deleted",
+            Unread::TiplocInserted => "location inserted",
+            Unread::TiplocAmended => "location amended",
+            Unread::TiplocDeleted => "location deleted",
             Unread::Association => "association",
             Unread::Trailer => "end of the extract",
         })
