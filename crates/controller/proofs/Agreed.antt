@@ -49,7 +49,7 @@ content_sound Association row c h = unread_sound Association c (refl, refl) h
 content_sound Trailer row c h = unread_sound Trailer c (refl, refl) h
 
 -- a row that is in place is one that the stage takes
-abbrev Places : (Stage → Identity → Bool) → Type 0
+abbrev pub Places : (Stage → Identity → Bool) → Type 0
 Places misplaced = (st : Stage) (i : Identity) → misplaced st i ≡ false → is_missing (next_stage st i false) ≡ false
 
 pub row_places : Places is_misplaced

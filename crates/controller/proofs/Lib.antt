@@ -6,3 +6,4 @@ pub mod Agreed
 pub mod Called
 pub mod Lawful
 pub mod Kept
+pub mod RowCalls

@@ -21,10 +21,10 @@ pub no_first : (x : ℕ) (xs : List ℕ) → ◌≡◌ {A = Option (ℕ × List 
 no_first x xs e = cc
 
 -- behind a `\`, the first byte and then the rest
-pub meant_behind : (text : List ℕ) (b : ℕ) (rest : List ℕ) → escaped text ≡ Some (b, rest) → escaped_bytes_of text ≡ option_map (λ bs. b ∷ bs) (bytes_of rest)
-meant_behind [] b rest h = cc
-meant_behind (high ∷ []) b rest h = cc
-meant_behind (high ∷ low ∷ others) b rest h =
+pub bytes_behind : (text : List ℕ) (b : ℕ) (rest : List ℕ) → escaped text ≡ Some (b, rest) → escaped_bytes_of text ≡ option_map (λ bs. b ∷ bs) (bytes_of rest)
+bytes_behind [] b rest h = cc
+bytes_behind (high ∷ []) b rest h = cc
+bytes_behind (high ∷ low ∷ others) b rest h =
     elim (hex_byte high low) as (λ (o : Option ℕ). option_map {U = ℕ × List ℕ} (λ x. (x, others)) o ≡ Some (b, rest) → and_then o (λ x. option_map (λ bs. x ∷ bs) (bytes_of others)) ≡ option_map (λ bs. b ∷ bs) (bytes_of rest)) [
       | Some x ↦ λ e. same_first x b others rest e
       | None ↦ λ e. absurd (no_first b rest (sym e))
@@ -32,11 +32,11 @@ meant_behind (high ∷ low ∷ others) b rest h =
     h
 
 -- a text stands for its first byte and then for what the rest stands for
-pub meant_first : (text : List ℕ) (b : ℕ) (rest : List ℕ) → first_byte_of text ≡ Some (b, rest) → bytes_of text ≡ option_map (λ bs. b ∷ bs) (bytes_of rest)
-meant_first [] b rest h = cc
-meant_first (c ∷ cs) b rest h =
+pub bytes_first : (text : List ℕ) (b : ℕ) (rest : List ℕ) → first_byte_of text ≡ Some (b, rest) → bytes_of text ≡ option_map (λ bs. b ∷ bs) (bytes_of rest)
+bytes_first [] b rest h = cc
+bytes_first (c ∷ cs) b rest h =
     elim (c == 92) as (λ (t : Bool). cond t (escaped cs) (Some (c, cs)) ≡ Some (b, rest) → cond t (escaped_bytes_of cs) (option_map (λ bs. c ∷ bs) (bytes_of cs)) ≡ option_map (λ bs. b ∷ bs) (bytes_of rest)) [
-      | true ↦ λ e. meant_behind cs b rest e
+      | true ↦ λ e. bytes_behind cs b rest e
       | false ↦ λ e. same_first c b cs rest e
     ]
     h
@@ -67,4 +67,4 @@ too_large_at n i most cs l h above =
 
 -- one turn of the loop: the first byte of what is left is put behind those before it
 pub turn_more : (out text rest : List ℕ) (b : ℕ) → first_byte_of text ≡ Some (b, rest) → option_map (λ bs. (out ++ b ∷ []) ++ bs) (bytes_of rest) ≡ option_map (λ bs. out ++ bs) (bytes_of text)
-turn_more out text rest b h = one_more out b (bytes_of rest) ∙ sym (ap (option_map (λ bs. out ++ bs)) (meant_first text b rest h))
+turn_more out text rest b h = one_more out b (bytes_of rest) ∙ sym (ap (option_map (λ bs. out ++ bs)) (bytes_first text b rest h))

@@ -63,9 +63,9 @@ pub found_none : (p len : ℕ) → ◌≡◌ {A = Option ℕ} None (cond (ltb p 
 found_none p len h = grind (arith, nat_tests)
 
 -- a line that is not passed over says what its word and what follows it say
-pub says_by : (line : List ℕ) → 0 < length line → get_or line 0 0 ≢ 35 → meaning_of_line line ≡ meaning_by_word (word_in line) (behind_word line)
-says_by [] h k = absurd (omega arith)
-says_by (c ∷ cs) h k = grind (arith, nat_tests)
+pub meaning_by : (line : List ℕ) → 0 < length line → get_or line 0 0 ≢ 35 → meaning_of_line line ≡ meaning_by_word (word_in line) (behind_word line)
+meaning_by [] h k = absurd (omega arith)
+meaning_by (c ∷ cs) h k = grind (arith, nat_tests)
 
 -- a text that is none is none of the words
 no_true : (b : Bool) → (b ≡ true → ⊥) → b ≡ false
