@@ -1,6 +1,7 @@
 -- A row that is heard step by step is turned away by the uppermost line of the table, and otherwise does what its bytes say.
-use Rattle.std.proofs.Common.{◌≡◌, ℕ, Bool, true, false, not, eqb, List, [], ◌∷◌, ◌++◌, length, Some, None, Ok, Err, Option, Result, sym, refl, ap, ◌∙◌, subst, append-nil, arith}
+use Rattle.std.proofs.Common.{◌≡◌, ℕ, Bool, true, false, not, eqb, List, [], ◌∷◌, ◌++◌, length, Some, None, Ok, Err, Option, Result, IsErrAnd, sym, refl, ap, ◌∙◌, subst, append-nil, arith}
 use Rattle.std.specs.Option.{option_map}
+use Rattle.std.proofs.lemmas.Result.{err_from_is_err_and}
 use Rattle.cif.specs.declared.content.Content.{Content}
 use Rattle.cif.specs.declared.content.Content.TheVariants.{Header, Schedule, Operator, Origin, Intermediate, Terminus, Unread}
 use Rattle.cif.specs.declared.content.Location.{Location}
@@ -140,3 +141,15 @@ module _ (misplaced : Stage → Identity → Bool) (s : Standing) (bytes held : 
 -- a fault that is the rule's was told
 pub told_err : {X E : Type 0} (after : X) (rule : Result X E) (r : Result (Unit {0}) E) (e : E) → r ≡ Err e → rule ≡ Err e → GoesBy after rule r
 told_err {X} {E} after rule r e h k = subst (λ (x : Result (Unit {0}) E). GoesBy after rule x) (sym h) k
+
+-- a row that was found whole is taken by a step of the extract, whose fault gets the row's letters
+module _ (misplaced : Stage → Identity → Bool) (s : Standing) (bytes held : List ℕ) (i : Identity) (p : Progress) (t : Result (Unit {0}) ColumnFault) (same : held ≡ bytes) (whole : whole_in bytes ≡ Ok i) (told : GoesBy p (verdict_unless (misplaced s.extract.stage i) s i held) t) (letters : List ℕ) (is : letters ≡ letters_in held) where
+  pub placed_ok : (u : Unit {0}) → map_err {F = ColumnFault × List ℕ} (λ e. (e, letters)) t ≡ Ok u → bytes_verdict misplaced s bytes ≡ Ok p
+  placed_ok u e = heard_ok misplaced s bytes held i p t same whole told u (with_place_ok t letters u e)
+
+  pub placed_err : (x : ColumnFault × List ℕ) (out : Result (Unit {0}) RowFault) → map_err {F = ColumnFault × List ℕ} (λ e. (e, letters)) t ≡ Err x → IsErrAnd out (λ f. f ≡ in_row x.1 x.0) → GoesBy p (bytes_verdict misplaced s bytes) out
+  placed_err x out e from =
+      let refused = with_place_err t letters x e in
+      let f = err_from_is_err_and out from in
+      let same_letters : letters_in bytes ≡ x.1 = sym (ap letters_in same) ∙ sym is ∙ refused.1 in
+      told_err p _ out f.0 f.1 (heard_err misplaced s bytes held i p t same whole told x.0 refused.0 ∙ ap Err (ap (λ l. in_row l x.0) same_letters ∙ sym f.2))

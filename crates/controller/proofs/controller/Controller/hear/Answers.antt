@@ -1,23 +1,18 @@
-use Rattle.std.proofs.Common.{◌≡◌, is_ok, Err, sym, ap, ◌∙◌}
+use Rattle.std.proofs.Common.{is_ok, sym, ap, ◌∙◌}
 use Rattle.std.proofs.lemmas.Result.{MatchResult-at_ok, err_from_is_err_and}
-use Rattle.cif.specs.Refusals.{in_row}
-use Rattle.cif.specs.Reading.{letters_in}
 use Rattle.extract.specs.Judging.{is_misplaced}
 use Rattle.controller.specs.Shown.{standing_in}
-use Rattle.controller.proofs.Heard.{with_place_ok, with_place_err, heard_ok, heard_err, told_err}
+use Rattle.controller.proofs.Heard.{with_place_ok, with_place_err, placed_ok, placed_err}
 use Rattle.controller.proofs.Called.{at_err}
 use Rattle.controller.proofs.Whole.{same_controller}
 use Rattle.controller.proofs.controller.Controller.hear.Goals as goal
 
 pub returns-in_err-with_place-clause-told : goal.returns-in_err-with_place-clause-told
 returns-in_err-with_place-clause-told g c =
-    let s = standing_in g.S.Timetable.meaning c.args.self.now in
     let row = c.in_ok-row.row in
     let made = MatchResult-at_ok _ _ row (with_place_ok c.check.result _ row (sym c.in_ok-row.ensures)) c.check.ensures.made in
-    let refused = with_place_err c.take.result c.letters-letters.result c.in_err-with_place.field-0.0 (sym c.with_place-2.ensures ∙ c.in_err-with_place.was) in
-    let p = err_from_is_err_and c.from_residual-in_err-with_place.result c.from_residual-in_err-with_place.ensures.1 in
-    let letters : letters_in c.args.bytes.now ≡ c.in_err-with_place.field-0.0.1 = sym (ap letters_in made.0) ∙ sym c.letters-letters.ensures ∙ refused.1 in
-    told_err _ _ c.from_residual-in_err-with_place.result p.0 p.1 (heard_err is_misplaced s c.args.bytes.now row.bytes row.identity _ c.take.result made.0 made.1 (c.take.ensures.told c.args.self.now.reference) c.in_err-with_place.field-0.0.0 refused.0 ∙ ap Err (ap (λ l. in_row l c.in_err-with_place.field-0.0.0) letters ∙ sym p.2))
+    placed_err is_misplaced (standing_in g.S.Timetable.meaning c.args.self.now) c.args.bytes.now row.bytes row.identity _ c.take.result made.0 made.1 (c.take.ensures.told c.args.self.now.reference) c.letters-letters.result c.letters-letters.ensures c.in_err-with_place.field-0.0 c.from_residual-in_err-with_place.result
+    (sym c.with_place-2.ensures ∙ c.in_err-with_place.was) c.from_residual-in_err-with_place.ensures.1
 
 pub returns-in_err-with_place-clause-unchanged : goal.returns-in_err-with_place-clause-unchanged
 returns-in_err-with_place-clause-unchanged g c =
@@ -28,7 +23,7 @@ returns-in_err-with_place-clause-unchanged g c =
 
 pub returns-clause-told : goal.returns-clause-told
 returns-clause-told g c =
-    let s = standing_in g.S.Timetable.meaning c.args.self.now in
     let row = c.in_ok-row.row in
     let made = MatchResult-at_ok _ _ row (with_place_ok c.check.result _ row (sym c.in_ok-row.ensures)) c.check.ensures.made in
-    heard_ok is_misplaced s c.args.bytes.now row.bytes row.identity _ c.take.result made.0 made.1 (c.take.ensures.told c.args.self.now.reference) _ (with_place_ok c.take.result c.letters-letters.result _ (sym c.with_place-2.ensures ∙ c.in_ok-with_place.was))
+    placed_ok is_misplaced (standing_in g.S.Timetable.meaning c.args.self.now) c.args.bytes.now row.bytes row.identity _ c.take.result made.0 made.1 (c.take.ensures.told c.args.self.now.reference) c.letters-letters.result c.letters-letters.ensures _
+    (sym c.with_place-2.ensures ∙ c.in_ok-with_place.was)
