@@ -26,7 +26,7 @@ use Rattle.overlay.proofs.Permitted.{each_push, each_within}
 use Rattle.extract.specs.declared.stage.Stage.{Stage}
 use Rattle.extract.specs.declared.stage.Stage.TheVariants.{Between}
 use Rattle.extract.specs.Stages.{next_stage, is_reading}
-use Rattle.extract.specs.Progress.{Progress, transaction_by, is_brief, identity_for, after, ended_by}
+use Rattle.extract.specs.Progress.{Progress, change_by, is_brief, identity_for, after, ended_by}
 use Rattle.extract.specs.Judging.{Standing, overlay_in, asks_new, is_there, past_rows, past_transactions, change_lines, content_lines}
 use Rattle.controller.specs.Laws.{is_passing}
 use Rattle.controller.proofs.Stepping.{reads_on}
@@ -88,13 +88,13 @@ module _ (s : Standing) (is : IsMap s.store.map) (within : IsWithinCapacity s.st
   few = each_within s.store cs is within may.pending
 
   -- the transaction that a BS asks for may be done, where no line holds
-  asked_may : (b : BasicSchedule) → is_lawful (transaction_by b b.action) ≡ true → uppermost (content_lines s (Schedule b)) ≡ None → MayBeDone (overlay_in s) (transaction_by b b.action)
+  asked_may : (b : BasicSchedule) → is_lawful (change_by b b.action) ≡ true → uppermost (content_lines s (Schedule b)) ≡ None → MayBeDone (overlay_in s) (change_by b b.action)
   asked_may b lawful h =
       let none = no_line (asks_new b.action) (is_there s b) (past_rows s (Schedule b) || past_transactions s (Schedule b)) (is_full (overlay_in s)) h in
       of b.action lawful none.0 none.1 none.2
     where
-      of : (c : Action) → is_lawful (transaction_by b c) ≡ true → (asks_new c && is_there s b) ≡ false → (not (asks_new c) && not (is_there s b)) ≡ false → (asks_new c && is_full (overlay_in s)) ≡ false
-          → MayBeDone (overlay_in s) (transaction_by b c)
+      of : (c : Action) → is_lawful (change_by b c) ≡ true → (asks_new c && is_there s b) ≡ false → (not (asks_new c) && not (is_there s b)) ≡ false → (asks_new c && is_full (overlay_in s)) ≡ false
+          → MayBeDone (overlay_in s) (change_by b c)
       of (AsksNew d) l p q r = (l, p, (let u = eqb-false (length (overlay_in s).map) s.store.capacity r in let f = few in omega arith))
       of (AsksRevise d) l p q r = (l, not-false (is_there s b) q)
       of AsksDelete l p q r = not-false (is_there s b) q
@@ -115,13 +115,13 @@ module _ (s : Standing) (is : IsMap s.store.map) (within : IsWithinCapacity s.st
   }
 
   -- a BS that has no further rows, and one that has
-  begins : (b : BasicSchedule) (brief : Bool) → brief ≡ is_brief b → s.extract.stage ≡ Between → MayBeDone (overlay_in s) (transaction_by b b.action)
-      → MayGoOn s.store (record { stage = unwrap_or (next_stage s.extract.stage IsSchedule brief) s.extract.stage; taken = s.extract.taken + 1; current = s.extract.current; draft = cond brief s.extract.draft (transaction_by b b.action); changes = cs ++ cond brief (transaction_by b b.action ∷ []) [] })
+  begins : (b : BasicSchedule) (brief : Bool) → brief ≡ is_brief b → s.extract.stage ≡ Between → MayBeDone (overlay_in s) (change_by b b.action)
+      → MayGoOn s.store (record { stage = unwrap_or (next_stage s.extract.stage IsSchedule brief) s.extract.stage; taken = s.extract.taken + 1; current = s.extract.current; draft = cond brief s.extract.draft (change_by b b.action); changes = cs ++ cond brief (change_by b b.action ∷ []) [] })
   begins b true e at h = record {
-    pending = each_push s.store cs (transaction_by b b.action) may.pending h;
+    pending = each_push s.store cs (change_by b b.action) may.pending h;
     reading = λ r. absurd (true≢false (sym (sym (ap (λ x. is_reading (unwrap_or (next_stage x IsSchedule true) x)) at) ∙ r)));
   }
-  begins b false e at h = record { pending = same_pending; reading = λ r. none_more (transaction_by b b.action) h }
+  begins b false e at h = record { pending = same_pending; reading = λ r. none_more (change_by b b.action) h }
 
   -- an LT
   ends : (l : Location) → is_lawful (ended_by l s.extract.draft) ≡ true
@@ -141,8 +141,8 @@ module _ (s : Standing) (is : IsMap s.store.map) (within : IsWithinCapacity s.st
   ends_between st h = grind (arith, nat_tests)
 
   -- the transaction that a BS asks for is lawful where those that join and the one that is then read are
-  asked_lawful : (b : BasicSchedule) (brief : Bool) → is_lawful (cond brief s.extract.draft (transaction_by b b.action)) ≡ true → every_lawful (cs ++ cond brief (transaction_by b b.action ∷ []) []) ≡ true → is_lawful (transaction_by b b.action) ≡ true
-  asked_lawful b true d h = last_lawful cs (transaction_by b b.action) h
+  asked_lawful : (b : BasicSchedule) (brief : Bool) → is_lawful (cond brief s.extract.draft (change_by b b.action)) ≡ true → every_lawful (cs ++ cond brief (change_by b b.action ∷ []) []) ≡ true → is_lawful (change_by b b.action) ≡ true
+  asked_lawful b true d h = last_lawful cs (change_by b b.action) h
   asked_lawful b false d h = d
 
   -- after a row that is taken what is pending and read may be done

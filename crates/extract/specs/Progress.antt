@@ -44,10 +44,10 @@ abbrev pub begun_by : BasicSchedule → Days → Record
 begun_by b d = begun_with (key_in b) d.to.0 d.days d.train
 
 -- the transaction that a BS row asks for
-abbrev pub transaction_by : BasicSchedule → Action → Change
-transaction_by b (AsksNew d) = New (begun_by b d)
-transaction_by b (AsksRevise d) = Revise (begun_by b d)
-transaction_by b AsksDelete = Delete (key_in b)
+abbrev pub change_by : BasicSchedule → Action → Change
+change_by b (AsksNew d) = New (begun_by b d)
+change_by b (AsksRevise d) = Revise (begun_by b d)
+change_by b AsksDelete = Delete (key_in b)
 
 -- whether a BS row asks for a deletion
 abbrev pub is_deletion : Action → Bool
@@ -78,7 +78,7 @@ current_after p c = option_map_or (λ h. h.current) (header_of c) p.current
 
 -- the transaction that is being read, after a row: a BS begins it, a BX names the operator, LO and LI may add a call
 abbrev pub draft_after : Progress → Content → Change
-draft_after p (Schedule b) = cond (is_brief b) p.draft (transaction_by b b.action)
+draft_after p (Schedule b) = cond (is_brief b) p.draft (change_by b b.action)
 draft_after p (Operator o) = bringing (λ r. with_operator r o) p.draft
 draft_after p (Origin l) = bringing (λ r. with_call r l) p.draft
 draft_after p (Intermediate l) = bringing (λ r. with_call r l) p.draft
@@ -90,7 +90,7 @@ ended_by l draft = bringing (λ r. with_destination r l.tiploc) (bringing (λ r.
 
 -- the transaction that joins at a row, if any: at its BS with D or letter C, otherwise at its LT
 abbrev pub joining_at : Progress → Content → List Change
-joining_at p (Schedule b) = cond (is_brief b) (transaction_by b b.action ∷ []) []
+joining_at p (Schedule b) = cond (is_brief b) (change_by b b.action ∷ []) []
 joining_at p (Terminus l) = ended_by l p.draft ∷ []
 joining_at p _ = []
 

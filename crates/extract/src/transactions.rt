@@ -8,7 +8,7 @@ ghost use Rattle.schedule.specs.Transactions.{change_of};
 ghost use Rattle.timetable.specs.Timetables.{is_full};
 ghost use Rattle.timetable.specs.Laws.{has_key};
 ghost use Rattle.overlay.specs.Overlays.{overlay_of, pending_in};
-ghost use Rattle.extract.specs.Progress.{key_in, transaction_by, is_brief};
+ghost use Rattle.extract.specs.Progress.{key_in, change_by, is_brief};
 ghost use Rattle.extract.specs.Judging.{content_lines, room_lines, call_row_lines, change_lines};
 ghost use Rattle.extract.specs.Standings.{standing, range_in};
 
@@ -23,10 +23,10 @@ use schedule::schedule::Schedule;
 use schedule::transaction::Transaction;
 use timetable::Store;
 
-//// How many rows of an extract are taken before its ZZ, HD included.
+/// How many rows of an extract are taken before its ZZ, HD included.
 pub const ROWS: u16 = 9_999;
 
-//// The key of a BS row.
+/// The key of a BS row.
 pub fn key_in(b: &BasicSchedule) -> Key
     ensures { result ≡ key_in b.now }
 {
@@ -56,7 +56,7 @@ fn begun(key: Key, days: Running) -> Option<Schedule>
 // The transaction that a BS row asks for, if it is in range.
 fn transaction_in(b: &BasicSchedule) -> Option<Transaction>
     ensures { MatchOption result (range_in b.now b.now.action ≡ false)
-        (λ t. change_of t ≡ transaction_by b.now b.now.action) }
+        (λ t. change_of t ≡ change_by b.now b.now.action) }
 {
     let key = key_in(b);
     match b.action {
@@ -132,7 +132,7 @@ impl Extract {
         ensures told { (reference : List ℕ) → fault_of result
             ≡ uppermost (content_lines
             (standing S.meaning self.now overlay.old reference) (OfSchedule b.now)) }
-        ensures transaction { IfOk result (λ t. change_of t ≡ transaction_by b.now b.now.action) }
+        ensures transaction { IfOk result (λ t. change_of t ≡ change_by b.now b.now.action) }
         ensures rows { OnOk result (self.now.taken < 9999) }
         ensures room { OnOk result (length (pending_in overlay.old.pending) < 32) }
         ensures same { overlay.new ≡ overlay.old }
