@@ -2,7 +2,7 @@
 ghost use Rattle.std.specs.Prelude.{◌≡◌, ℕ, ◌<◌, ◌↔◌, IsTrue, IfOk, Ok, length, map, slice_get, IfErr, Err};
 ghost use Rattle.board.specs.Boards.{lines_of};
 ghost use Rattle.runs.specs.Runs.{call_meant};
-ghost use Rattle.scripts.specs.Histories.{history_of, histories_of};
+ghost use Rattle.scripts.specs.Histories.{history_of, histories_in};
 ghost use Rattle.scripts.specs.Steps.{call_of};
 ghost use Rattle.list_tasks.specs.Errors.{NamesLine};
 
@@ -146,13 +146,13 @@ fn print_other<T: Store>(
 
 // Prints whether the bag's controller answered the same calls with the same, and whether both
 // boards show the same.
-fn print_compared(rt: &HostRuntime, answers: bool, board: bool) -> anyhow::Result<()> {
-    let answers = if answers {
+fn print_compared(rt: &HostRuntime, same_answers: bool, same_board: bool) -> anyhow::Result<()> {
+    let answers = if same_answers {
         "the same answers"
     } else {
         "other answers"
     };
-    let board = if board {
+    let board = if same_board {
         "the same board"
     } else {
         "another board"
@@ -258,9 +258,9 @@ fn replay_over_both(
 // The histories of a script, or an error that names the line that is none of a script.
 fn histories_of(rt: &HostRuntime, name: &str, script: &[u8]) -> Result<Vec<History>, TaskError>
     ensures histories { IfOk result (λ histories.
-        histories_of script.now ≡ Ok (map history_of histories.items)) }
+        histories_in script.now ≡ Ok (map history_of histories.items)) }
     ensures slip { IfErr result (NamesLine name.now (λ number.
-        histories_of script.now ≡ Err number)) }
+        histories_in script.now ≡ Err number)) }
 {
     match histories_in(rt.alloc(), script) {
         Ok(histories) => Ok(histories),

@@ -12,27 +12,27 @@ counted n = min n 18446744073709551615
 
 -- how many were done
 abbrev pub done_count : Counts → ℕ
-done_count t = t.done
+done_count c = c.done
 
 -- how many were refused with a number
 abbrev pub refused_count : Counts → ℕ → ℕ
-refused_count t number = slice_index t.refused number
+refused_count c number = slice_index c.refused number
 
 -- how many were refused with any number
 abbrev pub refused_total : Counts → ℕ
-refused_total t = fold (λ all n. counted (all + n)) 0 t.refused
+refused_total c = fold (λ all n. counted (all + n)) 0 c.refused
 
 -- counts with one more that was done
 abbrev pub with_done : Counts → Counts
-with_done t = record t { done = counted (t.done + 1) }
+with_done c = record c { done = counted (c.done + 1) }
 
 -- the counts of the numbers with one more for a number
 abbrev pub with_number : List ℕ → ℕ → List ℕ
-with_number counts number = slice_set counts number (counted (slice_index counts number + 1))
+with_number numbers number = slice_set numbers number (counted (slice_index numbers number + 1))
 
 -- counts with one more that was refused
 abbrev pub with_refused : Counts → Refusal → Counts
-with_refused t r = record t { refused = with_number t.refused (number_of r) }
+with_refused c r = record c { refused = with_number c.refused (number_of r) }
 
 -- the refusal that an answer tells, if it tells one
 abbrev pub refusal_told : Answer → Option Refusal

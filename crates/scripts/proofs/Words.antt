@@ -5,7 +5,7 @@ use Rattle.std.proofs.lemmas.Bool.Decides.{nat_tests}
 use Rattle.std.specs.Prelude.{codes}
 use Rattle.std.specs.Str.{bytes_eq, IsUtf8}
 use Rattle.std.proofs.lemmas.Slice.Eq.{bytes_eq-Decides}
-use Rattle.scripts.specs.Lines.{word_in, behind_word, meaning_of_line, meaning_by_word}
+use Rattle.scripts.specs.Lines.{word_in, behind_word, meaning_in, meaning_by_word}
 
 -- the place of the first blank, or the length where there is none
 abbrev pub blank_in : List ℕ → ℕ
@@ -63,7 +63,7 @@ pub found_none : (p len : ℕ) → ◌≡◌ {A = Option ℕ} None (cond (ltb p 
 found_none p len h = grind (arith, nat_tests)
 
 -- a line that is not passed over says what its word and what follows it say
-pub meaning_by : (line : List ℕ) → 0 < length line → get_or line 0 0 ≢ 35 → meaning_of_line line ≡ meaning_by_word (word_in line) (behind_word line)
+pub meaning_by : (line : List ℕ) → 0 < length line → get_or line 0 0 ≢ 35 → meaning_in line ≡ meaning_by_word (word_in line) (behind_word line)
 meaning_by [] h k = absurd (omega arith)
 meaning_by (c ∷ cs) h k = grind (arith, nat_tests)
 

@@ -5,7 +5,7 @@ use Rattle.forms.specs.Bytes.{and_then}
 use Rattle.controller.specs.Calls.{Call}
 use Rattle.scripts.specs.declared.history.History.{History}
 use Rattle.scripts.specs.Steps.{call_of}
-use Rattle.scripts.specs.Lines.{LineMeaning, Nothing, New, Other, Asks, meaning_of_line}
+use Rattle.scripts.specs.Lines.{LineMeaning, Nothing, New, Other, Asks, meaning_in}
 
 -- a history: how many slots and line slots, the calls, and those of the bag's controller where it
 -- has its own
@@ -59,7 +59,7 @@ on_last change (h ∷ []) = option_map (λ changed. changed ∷ []) (change h)
 on_last change (h ∷ next ∷ more) =
     option_map (λ changed. h ∷ changed) (on_last change (next ∷ more))
 
--- the histories after a line, by those before it and what it says, if it may stand there: a call
+-- the histories after a line, by those before it and what it means, if it may stand there: a call
 -- and `other` stand behind a `new`
 abbrev pub histories_after : List ScriptHistory → LineMeaning → Option (List ScriptHistory)
 histories_after histories Nothing = Some histories
@@ -90,10 +90,10 @@ abbrev pub histories_after_all :
     ℕ → List ScriptHistory → List (List ℕ) → Result (List ScriptHistory) ℕ
 histories_after_all number histories [] = Ok histories
 histories_after_all number histories (line ∷ lines) =
-    or_line number (and_then (meaning_of_line line) (histories_after histories))
+    or_line number (and_then (meaning_in line) (histories_after histories))
     (λ next. histories_after_all (number + 1) next lines)
 
 -- the histories of a script, whose lines are counted from 1, or the number of the first line that
 -- is none or stands where it may not
-abbrev pub histories_of : List ℕ → Result (List ScriptHistory) ℕ
-histories_of script = histories_after_all 1 [] (lines_of script)
+abbrev pub histories_in : List ℕ → Result (List ScriptHistory) ℕ
+histories_in script = histories_after_all 1 [] (lines_of script)

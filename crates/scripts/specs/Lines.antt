@@ -1,4 +1,4 @@
--- What the lines of a script say.
+-- What the lines of a script mean.
 use Rattle.std.specs.Prelude.{ℕ, if◌then◌else◌, List, [], ◌∷◌, Some, None, Option, codes, ◌==◌}
 use Rattle.std.specs.Option.{option_map}
 use Rattle.std.specs.Str.{bytes_eq}
@@ -52,7 +52,7 @@ call_in word rest =
     else (if bytes_eq word (codes "tally") then alone Tally rest
     else None))))))
 
--- what a line says: nothing, that a history begins, that the bag's controller gets the calls that
+-- what a line means: nothing, that a history begins, that the bag's controller gets the calls that
 -- follow, or a call
 pub data LineMeaning : Type 0 where
   Nothing : LineMeaning
@@ -67,21 +67,21 @@ new_in numbers =
     and_then (number_up_to 65536 (word_in numbers)) (λ capacity.
     and_then (behind_word numbers) (λ rest. option_map (New capacity) (number_up_to 131072 rest)))
 
--- what a word and what follows it say
+-- what a word and what follows it mean
 abbrev pub meaning_by_word : List ℕ → Option (List ℕ) → Option LineMeaning
 meaning_by_word word rest =
     if bytes_eq word (codes "new") then and_then rest new_in
     else (if bytes_eq word (codes "other") then alone Other rest
     else option_map Asks (call_in word rest))
 
--- what a line says, if it is one of a script: an empty line and one that begins with `#` are passed
+-- what a line means, if it is one of a script: an empty line and one that begins with `#` are passed
 -- over
-abbrev pub meaning_of_line : List ℕ → Option LineMeaning
-meaning_of_line [] = Some Nothing
-meaning_of_line (c ∷ cs) =
+abbrev pub meaning_in : List ℕ → Option LineMeaning
+meaning_in [] = Some Nothing
+meaning_in (c ∷ cs) =
     if c == 35 then Some Nothing else meaning_by_word (word_in (c ∷ cs)) (behind_word (c ∷ cs))
 
--- what a line that has been read says
+-- what a line that has been read means
 abbrev pub meaning_of : ScriptLine → LineMeaning
 meaning_of IsNothing = Nothing
 meaning_of (IsNew capacity slots) = New capacity slots

@@ -1,8 +1,8 @@
 //! The lines of a script, read one after another.
 ghost use Rattle.std.specs.Prelude.{◌≡◌, ℕ, map, Some, None, Ok, Err, option_map, IfOk};
 ghost use Rattle.std.specs.Bool.{OnTrue, OnFalse};
-ghost use Rattle.scripts.specs.Histories.{history_of, histories_after, histories_of};
-ghost use Rattle.scripts.specs.Lines.{meaning_of, new_in, turn_in, call_in, meaning_of_line};
+ghost use Rattle.scripts.specs.Histories.{history_of, histories_after, histories_in};
+ghost use Rattle.scripts.specs.Lines.{meaning_of, new_in, turn_in, call_in, meaning_in};
 ghost use Rattle.scripts.specs.Steps.{call_of};
 ghost use Rattle.scripts.specs.declared.reading.Unread.TheVariants.{Line, Memory};
 
@@ -18,7 +18,7 @@ const MOST_SLOTS: u64 = 65_536;
 // How many line slots a board may have.
 const MOST_LINES: u64 = 131_072;
 
-// What a line of a script says.
+// A line of a script that has been read.
 #[derive(Drop)]
 enum ScriptLine {
     Nothing,
@@ -70,9 +70,9 @@ fn step_in(alloc: Global, word: &str, rest: Option<&[u8]>) -> Result<Option<Step
     Ok(step)
 }
 
-// What a line says, or none where it is no line of a script.
+// What a line means, or none where it is no line of a script.
 fn script_line(alloc: Global, line: &[u8]) -> Result<Option<ScriptLine>, AllocError>
-    ensures { IfOk result (λ said. option_map meaning_of said ≡ meaning_of_line line.now) }
+    ensures { IfOk result (λ read. option_map meaning_of read ≡ meaning_in line.now) }
 {
     if line.is_empty() || line[0] == b'#' {
         return Ok(Some(ScriptLine::Nothing));
@@ -81,25 +81,25 @@ fn script_line(alloc: Global, line: &[u8]) -> Result<Option<ScriptLine>, AllocEr
     let Ok(word) = str::from_utf8(word) else {
         return Ok(None);
     };
-    let said = match (word, rest) {
+    let read = match (word, rest) {
         ("new", Some(numbers)) => new_in(numbers),
         ("other", None) => Some(ScriptLine::Other),
         _ => step_in(alloc, word, rest)?.map(ScriptLine::Step),
     };
-    Ok(said)
+    Ok(read)
 }
 
-// Adds what a line says to the histories before it, and says whether it may stand there.
-fn take(alloc: Global, histories: &mut Vec<History>, said: ScriptLine) -> Result<bool, AllocError>
+// Adds what a line means to the histories before it, and answers whether it may stand there.
+fn take(alloc: Global, histories: &mut Vec<History>, read: ScriptLine) -> Result<bool, AllocError>
     ensures taken { IfOk result (λ taken. OnTrue taken
-        (histories_after (map history_of histories.old.items) (meaning_of said)
+        (histories_after (map history_of histories.old.items) (meaning_of read)
         ≡ Some (map history_of histories.new.items))) }
     ensures refused { IfOk result (λ taken. OnFalse taken
-        (histories_after (map history_of histories.old.items) (meaning_of said) ≡ None)) }
+        (histories_after (map history_of histories.old.items) (meaning_of read) ≡ None)) }
     ensures unchanged { IfOk result
         (λ taken. OnFalse taken (histories.new.items ≡ histories.old.items)) }
 {
-    match said {
+    match read {
         ScriptLine::Nothing => {}
         ScriptLine::New(capacity, slots) => histories.push(History {
             capacity,
@@ -141,14 +141,14 @@ impl From<AllocError> for Unread {
 /// it may not, is told by its number.
 pub fn histories_in(alloc: Global, script: &[u8]) -> Result<Vec<History>, Unread>
     ensures histories { IfOk result
-        (λ histories. histories_of script.now ≡ Ok (map history_of histories.items)) }
+        (λ histories. histories_in script.now ≡ Ok (map history_of histories.items)) }
     ensures unread { (number : ℕ) → result ≡ Err (Line number)
-        → histories_of script.now ≡ Err number }
+        → histories_in script.now ≡ Err number }
 {
     let mut histories = Vec::new(alloc);
     for (place, line) in Rows::new(script).enumerate() {
         let taken = match script_line(alloc, line)? {
-            Some(said) => take(alloc, &mut histories, said)?,
+            Some(read) => take(alloc, &mut histories, read)?,
             None => false,
         };
         if !taken {

@@ -16,12 +16,12 @@ returns-then-not-taken-clause-unread c number e =
     let at : n ≡ number = cc in
     elim c.match-branch-2.branch [
       | in-Some-2+in_ok-taken-in-Some-2 w ↦
-          let says = sym c.in_ok-said.ensures ∙ ap (option_map meaning_of) w.in-Some-2.is in
+          let means = sym c.in_ok-read.ensures ∙ ap (option_map meaning_of) w.in-Some-2.is in
           let refused = rw (sym w.taken-is ∙ c.if-not-taken.true) at w.in_ok-taken-in-Some-2.ensures.refused in
-          sym c.loop-place.invariant ∙ line_refused n before text c.in-Some.line.now rest _ steps.0.0 steps.0.1 steps.0.2 says refused ∙ ap (λ (k : ℕ). Err k) at
+          sym c.loop-place.invariant ∙ line_refused n before text c.in-Some.line.now rest _ steps.0.0 steps.0.1 steps.0.2 means refused ∙ ap (λ (k : ℕ). Err k) at
       | in-None-2 w ↦
-          let says = sym c.in_ok-said.ensures ∙ ap (option_map meaning_of) w.in-None-2.is in
-          sym c.loop-place.invariant ∙ line_none n before text c.in-Some.line.now rest steps.0.0 steps.0.1 steps.0.2 says ∙ ap (λ (k : ℕ). Err k) at
+          let means = sym c.in_ok-read.ensures ∙ ap (option_map meaning_of) w.in-None-2.is in
+          sym c.loop-place.invariant ∙ line_none n before text c.in-Some.line.now rest steps.0.0 steps.0.1 steps.0.2 means ∙ ap (λ (k : ℕ). Err k) at
     ]
 
 pub loop-place-preserved : goal.loop-place-preserved
@@ -33,9 +33,9 @@ loop-place-preserved c =
     let rest = (enumerate_source c.next.new.self).rest.now in
     elim c.match-branch-2.branch [
       | in-Some-2+in_ok-taken-in-Some-2 w ↦
-          let says = sym c.in_ok-said.ensures ∙ ap (option_map meaning_of) w.in-Some-2.is in
+          let means = sym c.in_ok-read.ensures ∙ ap (option_map meaning_of) w.in-Some-2.is in
           let taken = rw (sym w.taken-is ∙ c.if-not-taken.false) at w.in_ok-taken-in-Some-2.ensures.taken in
-          let turn = line_taken n before (map history_of w.take.new.histories.items) text c.in-Some.line.now rest _ steps.0.0 steps.0.1 steps.0.2 says taken in
+          let turn = line_taken n before (map history_of w.take.new.histories.items) text c.in-Some.line.now rest _ steps.0.0 steps.0.1 steps.0.2 means taken in
           ap (λ (k : ℕ). histories_after_all (k + 1) (map history_of c.match-branch-2.histories.items) (lines_of rest)) steps.2
           ∙ ap (λ h. histories_after_all (n + 1) (map history_of h.items) (lines_of rest)) w.histories-is
           ∙ sym turn
