@@ -37,7 +37,7 @@ enum Outcome {
 }
 
 impl<'a, 'b, S: Store + Drop> Followed<'a, 'b, S> {
-    ghost use Rattle.std.specs.Prelude.{◌+◌, ◌*◌, ◌<◌, ◌≤◌, ◌||◌, if◌then◌else◌, length, is_ok, IsTrue, IfOk, OnOk, OnErr};
+    ghost use Rattle.std.specs.Prelude.{◌+◌, ◌*◌, ◌<◌, ◌≤◌, ◌||◌, if◌then◌else◌, false, length, is_ok, IsTrue, IfOk, OnOk, OnErr};
     ghost use Rattle.std.specs.Bool.{OnFalse};
     ghost use Rattle.overlay.specs.Settling.{after_tries};
     ghost use Rattle.extract.specs.Progress.{idle};
@@ -197,7 +197,8 @@ impl<'a, 'b, S: Store + Drop> Followed<'a, 'b, S> {
 
     // Hands a row over, prints why it was refused if it was, and ends an extract that is complete.
     fn take_row(&mut self, rt: &HostRuntime, number: usize, row: &[u8]) -> anyhow::Result<()>
-        ensures { Follows S.meaning self.old → Follows S.meaning self.new }
+        ensures follows { Follows S.meaning self.old → Follows S.meaning self.new }
+        ensures ended { OnOk result (is_complete (controller_of self.new) ≡ false) }
     {
         if let Err(fault) = self.hear(row) {
             print_fault(rt, number, &fault)?;
