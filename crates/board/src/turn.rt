@@ -47,6 +47,13 @@ impl Board<'_> {
         self.lines.len()
     }
 
+    /// The lines that it shows, in order.
+    pub fn lines(&self) -> &[Line]
+        ensures { result.now ≡ lines_of self.now }
+    {
+        self.lines.elements.as_slice()
+    }
+
     /// The line at a place counted from 0, or none past the lines.
     pub fn tell(&mut self, place: usize) -> Option<Line>
         ensures value { result ≡ slice_get (lines_of self.old) place }

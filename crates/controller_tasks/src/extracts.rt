@@ -12,7 +12,7 @@ use controller::controller::Controller;
 use controller::fault::ExtractFault;
 use extract::stage::Stage;
 use files::Rows;
-use list_tasks::boards::{filled, line_slots, print_refused, shown_lines};
+use list_tasks::boards::{filled, line_slots, print_refused};
 use list_tasks::error::{TaskError, read_file};
 use list_tasks::rows::Counts;
 use std::alloc::AllocError;
@@ -109,17 +109,16 @@ impl<'a, S: Store + Drop> Extracts<'a, S> {
     }
 
     // Turns a board to what is wanted, from the store's own map, and counts its lines.
-    fn lines_shown(&mut self, rt: &HostRuntime) -> anyhow::Result<Result<u64, Refusal>>
+    fn lines_shown(&mut self, rt: &HostRuntime) -> anyhow::Result<Result<usize, Refusal>>
         ensures { controller_of self.new ≡ controller_of self.old }
     {
         let Some(day) = self.wanted.day() else {
             return Ok(Err(Refusal::NoSuchBoard));
         };
         let station = filled(rt, self.wanted.station)?;
-        let most = self.lines.len();
         let mut shown = Board::new(self.lines.as_mut_slice());
         match self.controller.turn(&mut shown, station.as_slice(), day) {
-            Ok(()) => Ok(Ok(shown_lines(&mut shown, most))),
+            Ok(()) => Ok(Ok(shown.lines().len())),
             Err(fault) => Ok(Err(fault.fault.fault.refusal)),
         }
     }

@@ -10,7 +10,7 @@ use controller::controller::Controller;
 use controller::fault::ExtractFault;
 use extract::stage::Stage;
 use files::Rows;
-use list_tasks::boards::{filled, print_lines, print_refused, shown_lines};
+use list_tasks::boards::{filled, print_lines, print_refused};
 use list_tasks::error::{TaskError, read_file};
 use list_tasks::rows::Counts;
 use tasks::{StoreKind, Wanted};
@@ -22,7 +22,6 @@ use timetable::Store;
 pub struct Followed<'a, 'b, S> {
     controller: Controller<S>,
     board: Board<'b>,
-    most: usize,
     wanted: Wanted<'a>,
     refused: u64,
     /// How many rows were taken, and how many were refused with each number.
@@ -53,11 +52,9 @@ impl<'a, 'b, S: Store + Drop> Followed<'a, 'b, S> {
         ensures slots { slots_of (board_of result) ≡ length lines.old }
         ensures follows { Follows S.meaning result }
     {
-        let most = lines.len();
         Followed {
             controller: Controller::new(store),
             board: Board::new(lines),
-            most,
             wanted,
             refused: 0,
             counts: Counts::new(),
@@ -105,22 +102,18 @@ impl<'a, 'b, S: Store + Drop> Followed<'a, 'b, S> {
     }
 
     // Prints how many lines the board has.
-    fn print_count(&mut self, rt: &HostRuntime) -> anyhow::Result<()>
-        ensures { self.new ≡ self.old }
-    {
+    fn print_count(&self, rt: &HostRuntime) -> anyhow::Result<()> {
         self.print_shown(rt)?;
-        let lines = shown_lines(&mut self.board, self.most);
+        let lines = self.board.lines().len();
         println!(rt; ": lines {lines}")?;
         Ok(())
     }
 
-    /// Prints the board, which stays as it was.
-    pub fn print_board(&mut self, rt: &HostRuntime) -> anyhow::Result<()>
-        ensures { self.new ≡ self.old }
-    {
+    /// Prints the board.
+    pub fn print_board(&self, rt: &HostRuntime) -> anyhow::Result<()> {
         self.print_shown(rt)?;
         println!(rt; "")?;
-        print_lines(rt, &mut self.board, self.most)
+        print_lines(rt, &self.board)
     }
 
     // Confirms the open extract, or drops it where a row of it was refused or it is not complete.

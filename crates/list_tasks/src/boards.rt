@@ -1,6 +1,5 @@
 //! The departure board of a station and date.
-ghost use Rattle.std.specs.Prelude.{◌≡◌, ◌*◌, min, length, IfOk};
-ghost use Rattle.board.specs.Boards.{lines_of};
+ghost use Rattle.std.specs.Prelude.{◌≡◌, ◌*◌, length, IfOk};
 ghost use Rattle.list_tasks.specs.Stations.{filled_up};
 ghost use Rattle.list_tasks.specs.Blanks.{blank_line};
 
@@ -93,35 +92,19 @@ pub fn print_refused(rt: &HostRuntime, before: &str, refusal: Refusal) -> anyhow
     Ok(())
 }
 
-/// How many lines a board shows, of so many at the most. The board stays as it was.
-pub fn shown_lines(shown: &mut Board, most: usize) -> u64
-    ensures value { result ≡ min most (length (lines_of shown.old)) }
-    ensures same { shown.new ≡ shown.old }
-{
-    most.min(shown.len()) as u64
-}
-
-/// Prints the lines of a board in order, of so many at the most. The board stays as it was.
-pub fn print_each(rt: &HostRuntime, shown: &mut Board, most: usize) -> anyhow::Result<()>
-    ensures { shown.new ≡ shown.old }
-{
-    for place in 0..most {
-        let Some(line) = shown.tell(place) else {
-            break;
-        };
-        let words = LineWords(&line);
+/// Prints the lines of a board in order.
+pub fn print_each(rt: &HostRuntime, shown: &Board) -> anyhow::Result<()> {
+    for line in shown.lines() {
+        let words = LineWords(line);
         println!(rt; "{words}")?;
     }
     Ok(())
 }
 
-/// Prints the lines of a board in order, and how many there are, of so many at the most. The board
-/// stays as it was.
-pub fn print_lines(rt: &HostRuntime, shown: &mut Board, most: usize) -> anyhow::Result<()>
-    ensures { shown.new ≡ shown.old }
-{
-    print_each(rt, shown, most)?;
-    let lines = shown_lines(shown, most);
+/// Prints the lines of a board in order, and how many there are.
+pub fn print_lines(rt: &HostRuntime, shown: &Board) -> anyhow::Result<()> {
+    print_each(rt, shown)?;
+    let lines = shown.lines().len();
     println!(rt; "lines {lines}")?;
     Ok(())
 }
@@ -161,8 +144,7 @@ pub fn print_board<S: Store>(
 ) -> anyhow::Result<()>
     ensures { store.new ≡ store.old }
 {
-    let most = slots.len();
-    let mut shown = match turned(rt, store, slots, wanted, 1)? {
+    let shown = match turned(rt, store, slots, wanted, 1)? {
         Ok(shown) => shown,
         Err(refusal) => return print_refused(rt, "", refusal),
     };
@@ -177,7 +159,7 @@ pub fn print_board<S: Store>(
     println!(rt;
         "board {station} {date}, store {kind}: {held} of {capacity} schedules, refused {refused}"
     )?;
-    print_lines(rt, &mut shown, most)
+    print_lines(rt, &shown)
 }
 
 /// Turns a board to what is wanted so many times, and prints how many lines it has. The store stays
@@ -191,12 +173,11 @@ pub fn print_turns<S: Store>(
 ) -> anyhow::Result<()>
     ensures { store.new ≡ store.old }
 {
-    let most = slots.len();
-    let mut shown = match turned(rt, store, slots, wanted, times)? {
+    let shown = match turned(rt, store, slots, wanted, times)? {
         Ok(shown) => shown,
         Err(refusal) => return print_refused(rt, "", refusal),
     };
-    let lines = shown_lines(&mut shown, most);
+    let lines = shown.lines().len();
     println!(rt; "turns {times}: lines {lines}")?;
     Ok(())
 }
