@@ -1,7 +1,8 @@
-//! Scripts of calls, done to controllers over both stores.
-ghost use Rattle.std.specs.Prelude.{◌≡◌, ℕ, ◌<◌, ◌↔◌, IsTrue, IfOk, Ok, length, map, slice_get, IfErr, Err};
+//! Scripts of calls, made to installations over both stores.
+ghost use Rattle.std.specs.Prelude.{◌≡◌, IfOk, Ok, length, map, IfErr, Err};
+ghost use Rattle.std.specs.Bool.{Decides};
 ghost use Rattle.board.specs.Boards.{lines_of};
-ghost use Rattle.runs.specs.Runs.{call_meant};
+ghost use Rattle.runs.specs.Calls.{call_meant};
 ghost use Rattle.scripts.specs.Histories.{history_of, histories_in};
 ghost use Rattle.scripts.specs.Steps.{call_of};
 ghost use Rattle.list_tasks.specs.Errors.{NamesLine};
@@ -10,13 +11,14 @@ use anyhow::anyhow;
 use board::display::{Board, StationDay};
 use board::line::Line;
 use controller::answer::Answer;
-use list_tasks::boards::{empty_line, print_each, shown_lines};
+use list_tasks::boards::{empty_line, print_each};
 use list_tasks::error::{TaskError, read_file};
 use list_tasks::keeping::empty_record;
 use list_tasks::rows::{Counts, print_calls};
 use runs::call::Call;
-use runs::plan::{Plan, Ran};
-use runs::run::run_both;
+use runs::pair::{Pair, Side};
+use runs::plan::Plan;
+use runs::run::Run;
 use scripts::history::History;
 use scripts::reading::{Unread, histories_in};
 use scripts::step::Step;
@@ -28,25 +30,29 @@ use wording::words::Text;
 
 // Line slots for the board of a controller, the calls, and a place for the answer to each.
 #[derive(Drop)]
-struct Side<'a> {
+struct RunMemory<'a> {
     lines: Vec<Line>,
     calls: Vec<Call<'a>>,
     answers: Vec<Answer>,
 }
 
-impl<'a> Side<'a> {
+impl<'a> RunMemory<'a> {
     // For the calls of a history.
-    fn new(rt: &HostRuntime, history: &History, steps: &'a [Step]) -> Result<Side<'a>, AllocError>
-        ensures lines { IfOk result (λ side. length side.lines.items ≡ history.now.slots) }
+    fn new(
+        rt: &HostRuntime,
+        history: &History,
+        steps: &'a [Step],
+    ) -> Result<RunMemory<'a>, AllocError>
+        ensures lines { IfOk result (λ memory. length memory.lines.items ≡ history.now.slots) }
         ensures calls { IfOk result
-            (λ side. map call_meant side.calls.items ≡ map call_of steps.now) }
-        ensures answers { IfOk result (λ side. length side.answers.items ≡ length steps.now) }
+            (λ memory. map call_meant memory.calls.items ≡ map call_of steps.now) }
+        ensures answers { IfOk result (λ memory. length memory.answers.items ≡ length steps.now) }
     {
         let mut calls = Vec::new(rt.alloc());
         for step in steps {
             calls.push(step.call())?;
         }
-        Ok(Side {
+        Ok(RunMemory {
             lines: vec![in rt.alloc(); empty_line(); history.slots]?,
             calls,
             answers: vec![in rt.alloc(); Answer::Done; steps.len()]?,
@@ -69,19 +75,41 @@ impl<'a> Side<'a> {
     }
 }
 
-// Prints the answer to each call, and counts it.
-fn print_answers(
+// Makes the next call of a side. There is one for each line.
+fn answer<S: Store, T: Store>(pair: &mut Pair<'_, '_, S, T>, side: Side) -> anyhow::Result<Answer> {
+    match pair.call_next(side) {
+        Some(answer) => Ok(answer),
+        None => Err(anyhow!("a history has a line that is no call")),
+    }
+}
+
+// Makes the call of each line to a side, prints its answer, and counts it.
+fn print_answers<S: Store, T: Store>(
     rt: &HostRuntime,
-    calls: &[Step],
-    answers: &[Answer],
+    pair: &mut Pair<'_, '_, S, T>,
+    side: Side,
+    steps: &[Step],
     counts: &mut Counts,
 ) -> anyhow::Result<()> {
-    for (place, (step, answer)) in calls.iter().zip(answers).enumerate() {
+    for (place, step) in steps.iter().enumerate() {
+        let answer = answer(pair, side)?;
         let number = place + 1;
         let word = step.word();
-        let words = AnswerWords(answer);
+        let words = AnswerWords(&answer);
         println!(rt; "{number} {word}: {words}")?;
-        counts.note_answer(answer);
+        counts.note_answer(&answer);
+    }
+    Ok(())
+}
+
+// Makes the call of each line to a side.
+fn make_all<S: Store, T: Store>(
+    pair: &mut Pair<'_, '_, S, T>,
+    side: Side,
+    steps: &[Step],
+) -> anyhow::Result<()> {
+    for _ in steps {
+        answer(pair, side)?;
     }
     Ok(())
 }
@@ -100,45 +128,27 @@ fn print_shown(rt: &HostRuntime, shown: Option<StationDay>) -> anyhow::Result<()
 }
 
 // Prints what a controller and its board tell after the calls.
-fn print_end<S: Store>(
-    rt: &HostRuntime,
-    name: &str,
-    ran: &mut Ran<'_, S>,
-    most: usize,
-) -> anyhow::Result<()> {
-    let tally = ran.installation.controller.tally();
+fn print_end<S: Store>(rt: &HostRuntime, name: &str, run: &Run<'_, S>) -> anyhow::Result<()> {
+    let installation = run.installation();
+    let tally = installation.controller.tally();
     print!(rt; "{name}: tally {tally}, board ")?;
-    print_shown(rt, ran.installation.board.shown())?;
-    let lines = shown_lines(&mut ran.installation.board, most);
+    print_shown(rt, installation.board.shown())?;
+    let lines = installation.board.lines().len();
     println!(rt; ", lines {lines}")?;
-    print_each(rt, &mut ran.installation.board, most)
+    print_each(rt, &installation.board)
 }
 
-// Whether two boards show the same lines, of so many at the most.
-fn is_same(left: &mut Board, right: &mut Board, most: usize) -> bool
-    ensures value { IsTrue result
-        ↔ ((k : ℕ) → k < most
-        → slice_get (lines_of left.old) k ≡ slice_get (lines_of right.old) k) }
-    ensures left { left.new ≡ left.old }
-    ensures right { right.new ≡ right.old }
+// Whether two boards show the same lines.
+fn is_same(left: &Board, right: &Board) -> bool
+    ensures { Decides result (lines_of left.now ≡ lines_of right.now) }
 {
-    for place in 0..most {
-        if left.tell(place) != right.tell(place) {
-            return false;
-        }
-    }
-    true
+    left.lines() == right.lines()
 }
 
 // Prints what the bag's controller tells after calls of its own, and whether both boards show the
 // same.
-fn print_other<T: Store>(
-    rt: &HostRuntime,
-    bag: &mut Ran<'_, T>,
-    most: usize,
-    same: bool,
-) -> anyhow::Result<()> {
-    print_end(rt, "bag", bag, most)?;
+fn print_other<T: Store>(rt: &HostRuntime, bag: &Run<'_, T>, same: bool) -> anyhow::Result<()> {
+    print_end(rt, "bag", bag)?;
     let verdict = if same { "the same" } else { "different" };
     println!(rt; "boards: {verdict}")?;
     Ok(())
@@ -165,20 +175,15 @@ fn print_compared(rt: &HostRuntime, same_answers: bool, same_board: bool) -> any
 fn print_ends<S: Store, T: Store>(
     rt: &HostRuntime,
     history: &History,
-    table: &mut Ran<'_, S>,
-    bag: &mut Ran<'_, T>,
+    pair: &Pair<'_, '_, S, T>,
 ) -> anyhow::Result<()> {
-    let most = history.slots;
-    print_end(rt, "table", table, most)?;
-    let same = is_same(
-        &mut table.installation.board,
-        &mut bag.installation.board,
-        most,
-    );
+    let Pair { left, right } = pair;
+    print_end(rt, "table", left)?;
+    let same = is_same(&left.installation().board, &right.installation().board);
     if history.other.is_some() {
-        return print_other(rt, bag, most, same);
+        return print_other(rt, right, same);
     }
-    print_compared(rt, &*table.answers == &*bag.answers, same)
+    print_compared(rt, left.answers() == right.answers(), same)
 }
 
 // Prints how a history begins, and how many calls it has.
@@ -199,32 +204,33 @@ fn print_head(
     Ok(())
 }
 
-// What a run came to. It would hand its plan back only over a store that is not empty, or without a
-// place for each answer.
-fn ran<'a, S: Drop>(outcome: Result<Ran<'a, S>, Plan<'a, S>>) -> anyhow::Result<Ran<'a, S>> {
-    match outcome {
-        Ok(ran) => Ok(ran),
-        Err(_) => Err(anyhow!("the calls of a history were not done")),
+// A run of the calls of a history. It would hand its plan back only over a store that is not empty,
+// or without a place for each answer.
+fn begun<'a, S: Store + Drop>(plan: Plan<'a, S>) -> anyhow::Result<Run<'a, S>> {
+    match Run::new(plan) {
+        Ok(run) => Ok(run),
+        Err(_) => Err(anyhow!("the calls of a history cannot be made")),
     }
 }
 
-// Prints what came of the calls of a history over two stores.
+// Makes the calls of a history over two stores, and prints what came of them.
 fn print_both<S: Store, T: Store>(
     rt: &HostRuntime,
     history: &History,
-    table: &mut Ran<'_, S>,
-    bag: &mut Ran<'_, T>,
+    pair: &mut Pair<'_, '_, S, T>,
     counts: &mut Counts,
 ) -> anyhow::Result<()> {
-    print_answers(rt, history.calls.as_slice(), table.answers, counts)?;
+    print_answers(rt, pair, Side::Left, history.calls.as_slice(), counts)?;
     if history.other.is_some() {
         println!(rt; "other")?;
-        print_answers(rt, history.others(), bag.answers, counts)?;
+        print_answers(rt, pair, Side::Right, history.others(), counts)?;
+    } else {
+        make_all(pair, Side::Right, history.others())?;
     }
-    print_ends(rt, history, table, bag)
+    print_ends(rt, history, pair)
 }
 
-// Does the calls of a history over two stores, and prints what came of them.
+// Makes the calls of a history over two stores that are empty, and prints what came of them.
 fn replay<S: Store + Drop, T: Store + Drop>(
     rt: &HostRuntime,
     history: &History,
@@ -232,15 +238,16 @@ fn replay<S: Store + Drop, T: Store + Drop>(
     second: T,
     counts: &mut Counts,
 ) -> anyhow::Result<()> {
-    let mut table = Side::new(rt, history, history.calls.as_slice())?;
-    let mut bag = Side::new(rt, history, history.others())?;
-    let (table, bag) = run_both(table.plan(first), bag.plan(second));
-    let mut table = ran(table)?;
-    let mut bag = ran(bag)?;
-    print_both(rt, history, &mut table, &mut bag, counts)
+    let mut table = RunMemory::new(rt, history, history.calls.as_slice())?;
+    let mut bag = RunMemory::new(rt, history, history.others())?;
+    let mut pair = Pair {
+        left: begun(table.plan(first))?,
+        right: begun(bag.plan(second))?,
+    };
+    print_both(rt, history, &mut pair, counts)
 }
 
-// Does the calls of a history over a table and a bag, and prints what came of them.
+// Makes the calls of a history over a table and a bag, and prints what came of them.
 fn replay_over_both(
     rt: &HostRuntime,
     number: usize,
@@ -271,7 +278,7 @@ fn histories_of(rt: &HostRuntime, name: &str, script: &[u8]) -> Result<Vec<Histo
     }
 }
 
-/// Does the histories of a script, and prints what came of each call. A script with a line that is
+/// Makes the calls of the histories of a script, and prints what came of each call. A script with a line that is
 /// none is refused as a whole.
 pub fn print_script(rt: &HostRuntime, name: &str) -> Result<(), TaskError> {
     let script = read_file(rt, name)?;

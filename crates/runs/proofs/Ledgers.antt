@@ -5,10 +5,13 @@ use Rattle.std.proofs.lemmas.Bool.{and_parts, false≢true}
 use Rattle.std.proofs.lemmas.List.Sums.{fold_push}
 use Rattle.schedule.specs.declared.record.Record.{Record}
 use Rattle.schedule.specs.declared.transaction.Change.{Change}
-use Rattle.timetable.specs.Timetables.{Meaning}
+use Rattle.timetable.specs.Timetables.{Meaning, IsMap}
 use Rattle.overlay.specs.Overlays.{done_to, done_all, with_done}
 use Rattle.overlay.specs.Permitted.{MayBeDone, EachMayBeDone}
 use Rattle.overlay.proofs.Trains.{trains_decide}
+use Rattle.overlay.proofs.Permitted.{each_lawful}
+use Rattle.controller.specs.Keeping.{State, KeepsTo}
+use Rattle.runs.specs.Pairs.{SameLines}
 use Rattle.board.specs.declared.display.StationDay.{StationDay}
 use Rattle.board.specs.declared.line.Line.{Line}
 use Rattle.board.specs.Lines.{LinesFor}
@@ -97,3 +100,31 @@ pub could_be_done : ConfirmedCouldBeDone
 could_be_done s ℓ before after c k e =
     let t = record s.standing.store { map = ℓ.start } in
     at_its_turn t before after c (subst (λ (cs : List Change). EachMayBeDone t cs) e k.confirmed)
+
+-- the start stays
+step_start : (ℓ : Ledger) (call : Call) (accepted : Bool) → (ledger_after ℓ call accepted).start ≡ ℓ.start
+step_start ℓ call false = refl
+step_start ℓ (Open row) true = refl
+step_start ℓ (Row row) true = refl
+step_start ℓ Confirm true = refl
+step_start ℓ Abandon true = refl
+step_start ℓ (Turn station day) true = refl
+step_start ℓ (Tell place) true = refl
+step_start ℓ Tally true = refl
+
+pub start_kept : (ℓ : Ledger) (es : List Entry) → (ledger_after_all ℓ es).start ≡ ℓ.start
+start_kept ℓ [] = refl
+start_kept ℓ (e ∷ es) = start_kept (ledger_after ℓ e.0 e.1) es ∙ step_start ℓ e.0 e.1
+
+-- two that keep to ledgers that began alike, with the same for each train, at the same station and day
+pub same_boards : (s t : State) (first : Ledger) (es fs : List Entry) → IsMap first.start → KeepsTo s (ledger_after_all first es) → KeepsTo t (ledger_after_all first fs)
+    → SameLines (ledger_after_all first es) (ledger_after_all first fs) s.lines t.lines
+same_boards s t first es fs is k l h shown =
+    let ℓ = ledger_after_all first es in
+    let m = ledger_after_all first fs in
+    let p : ℓ.start ≡ first.start = start_kept first es in
+    let q : m.start ≡ first.start = start_kept first fs in
+    same_lines ℓ m (p ∙ sym q) (subst (λ (x : List Record). IsMap x) (sym p) is) (each_lawful _ ℓ.confirmed k.confirmed) (each_lawful _ m.confirmed l.confirmed) h shown s.lines t.lines k.lines l.lines
+
+pub no_map : IsMap []
+no_map = record { rising = refl; schedules = refl }

@@ -1,2 +1,4 @@
 pub mod Ledgers
 pub mod Runs
+pub mod Pairs
+pub mod WholeRuns

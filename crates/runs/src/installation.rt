@@ -2,9 +2,10 @@
 ghost use Rattle.std.specs.Prelude.{◌≡◌, length};
 ghost use Rattle.std.specs.Bool.{OnFalse};
 ghost use Rattle.timetable.specs.Timetables.{IsWithinCapacity};
+ghost use Rattle.board.specs.Boards.{SlotsKept};
 ghost use Rattle.controller.specs.Ledger.{new_ledger, is_accepted};
 ghost use Rattle.controller.specs.Keeping.{KeepsTo, Obeys};
-ghost use Rattle.runs.specs.Runs.{call_meant, stands};
+ghost use Rattle.runs.specs.Calls.{call_meant, stands};
 
 use crate::call::Call;
 use board::display::Board;
@@ -41,6 +42,7 @@ impl<'a, S: Store> Installation<'a, S> {
         ensures obeys { Obeys (stands S.meaning self.old) (stands S.meaning self.new)
             (call_meant call.now) result }
         ensures unchanged { OnFalse (is_accepted result) (self.new ≡ self.old) }
+        ensures rest { SlotsKept self.old.board self.new.board }
     {
         match call {
             Call::Open(row) => Answer::from(self.controller.open(row)),

@@ -1,8 +1,10 @@
-// Whole runs: any calls, one after another, on new controllers and boards.
+// Installations that are asked any calls, one after another, from new controllers and boards on.
 #![tactic(auto)]
 
 pub mod call;
 pub mod installation;
 pub mod laws;
+pub mod pair;
 pub mod plan;
 pub mod run;
+pub mod whole;

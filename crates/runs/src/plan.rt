@@ -1,6 +1,5 @@
-// What a run is given, and what it leaves.
+// What a run is given.
 use crate::call::Call;
-use crate::installation::Installation;
 use board::line::Line;
 use controller::answer::Answer;
 
@@ -14,12 +13,5 @@ pub struct Plan<'a, S> {
     /// The calls, in order.
     pub calls: &'a [Call<'a>],
     /// As many places as there are calls.
-    pub answers: &'a mut [Answer],
-}
-
-/// The installation after all calls, and the answer to each.
-#[derive(Drop)]
-pub struct Ran<'a, S> {
-    pub installation: Installation<'a, S>,
     pub answers: &'a mut [Answer],
 }

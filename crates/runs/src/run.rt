@@ -1,43 +1,98 @@
-// Runs from new installations on.
-ghost use Rattle.runs.specs.Runs.{RunOf, BothRuns};
+// An installation that is asked one call after another.
+ghost use Rattle.std.specs.Prelude.{◌≡◌, ◌+◌, ◌<◌, length, set};
+ghost use Rattle.controller.specs.Keeping.{KeepsTo, Obeys};
+ghost use Rattle.std.specs.Bool.{OnFalse};
+ghost use Rattle.board.specs.Boards.{SlotsKept};
+ghost use Rattle.controller.specs.Ledger.{is_accepted};
+ghost use Rattle.runs.specs.Calls.{call_meant, stands, first_ledger, ledger_at};
 
+use crate::call::Call;
 use crate::installation::Installation;
-use crate::plan::{Plan, Ran};
+use crate::plan::Plan;
+use controller::answer::Answer;
 use timetable::{Store, Timetable};
 
-/// Does the calls of a plan to a new controller and board. It is refused, and handed back as it was, where the store is not empty,
-/// or there are not as many places for answers as calls.
-pub fn run<'a, S: Store>(mut plan: Plan<'a, S>) -> Result<Ran<'a, S>, Plan<'a, S>>
-    ensures { RunOf S.meaning plan.entry result }
-{
-    if plan.store.count() != 0 || plan.answers.len() != plan.calls.len() {
-        return Err(plan);
-    }
-    let Plan {
-        store,
-        slots,
-        calls,
-        answers,
-    } = plan;
-    let mut installation = Installation::new(store, slots);
-    for (place, call) in calls.iter().enumerate() {
-        answers[place] = installation.call(call);
-    }
-    Ok(Ran {
-        installation,
-        answers,
-    })
+/// An installation with the calls that it is asked, in order: those that were made, and the answer to each.
+#[derive(Drop)]
+pub struct Run<'a, S: Store> {
+    /// The controller and its board.
+    pub(crate) installation: Installation<'a, S>,
+    // The calls, in order.
+    calls: &'a [Call<'a>],
+    // The answers to the calls that were made, in order, and places for the others.
+    answers: &'a mut [Answer],
+    // How many of the calls were made.
+    made: usize,
+    ghost places: { length answers.now ≡ length calls.now },
+    ghost keeps: { ∥ KeepsTo (stands S.Timetable.meaning installation)
+        (ledger_at first_ledger calls.now answers.now made) ∥₁ },
 }
 
-/// Does two plans, over stores of any two makes.
-pub fn run_both<'a, 'b, S: Store, T: Store>(
-    left: Plan<'a, S>,
-    right: Plan<'b, T>,
-) -> (
-    Result<Ran<'a, S>, Plan<'a, S>>,
-    Result<Ran<'b, T>, Plan<'b, T>>,
-)
-    ensures { BothRuns S.meaning T.meaning left.entry right.entry result.0 result.1 }
+// Does a call, and writes its answer down in the place that is next.
+fn make<S: Store>(
+    installation: &mut Installation<'_, S>,
+    call: &Call<'_>,
+    answers: &mut [Answer],
+    made: &mut usize,
+) -> Answer
+    requires { made.old < length answers.old }
+    ensures obeys { Obeys (stands S.meaning installation.old) (stands S.meaning installation.new)
+        (call_meant call.now) result }
+    ensures unchanged { OnFalse (is_accepted result) (installation.new ≡ installation.old) }
+    ensures rest { SlotsKept installation.old.board installation.new.board }
+    ensures answers { answers.new ≡ set answers.old made.old result }
+    ensures made { made.new ≡ made.old + 1 }
 {
-    (run(left), run(right))
+    let answer = installation.call(call);
+    answers[*made] = answer;
+    *made += 1;
+    answer
+}
+
+impl<'a, S: Store> Run<'a, S> {
+    ghost use Rattle.runs.specs.Runs.{BegunFrom, Next, installation_of, answers_of};
+
+    /// A run of a plan, over a new controller and a new board; no call is made yet. It is refused, and handed back as it was,
+    /// where the store is not empty, or there are not as many places for answers as calls.
+    pub fn new(mut plan: Plan<'a, S>) -> Result<Run<'a, S>, Plan<'a, S>>
+        ensures { BegunFrom S.meaning plan.entry result }
+    {
+        if plan.store.count() != 0 || plan.answers.len() != plan.calls.len() {
+            return Err(plan);
+        }
+        let Plan {
+            store,
+            slots,
+            calls,
+            answers,
+        } = plan;
+        Ok(Run {
+            installation: Installation::new(store, slots),
+            calls,
+            answers,
+            made: 0,
+        })
+    }
+
+    /// Makes the next call, and answers it; none where all calls are made.
+    pub fn call_next(&mut self) -> Option<Answer>
+        ensures { ∥ Next S.meaning first_ledger self.old self.new result ∥₁ }
+    {
+        let call = self.calls.get(self.made)?;
+        Some(make(&mut self.installation, call, self.answers, &mut self.made))
+    }
+
+    /// The installation, as the calls that were made have left it.
+    pub fn installation(&self) -> &Installation<'a, S>
+        ensures { result.now ≡ installation_of self.now }
+    {
+        &self.installation
+    }
+
+    /// The answers to the calls that were made, in order, and then the places that are left.
+    pub fn answers(&self) -> &[Answer]
+        ensures { result.now ≡ answers_of self.now }
+    {
+        self.answers
+    }
 }

@@ -1,6 +1,6 @@
 //! The calls that a script asks for.
 ghost use Rattle.std.specs.Prelude.{◌≡◌};
-ghost use Rattle.runs.specs.Runs.{call_meant};
+ghost use Rattle.runs.specs.Calls.{call_meant};
 ghost use Rattle.scripts.specs.Steps.{call_of, word_of};
 
 use runs::call::Call;

@@ -1,7 +1,7 @@
 use Rattle.std.proofs.Common.{◌≡◌, map, take}
-use Rattle.runs.specs.Runs.{call_meant}
+use Rattle.runs.specs.Calls.{call_meant}
 use Rattle.scripts.specs.Steps.{call_of}
-use Rattle.controller_tasks.proofs.replay.Side.new.Given as goal
+use Rattle.controller_tasks.proofs.replay.RunMemory.new.Given as goal
 
 abbrev pub invariant-loop-step : goal.invariant-loop-step
 invariant-loop-step l = map call_meant l.calls.items ≡ map call_of (take l.step-index l.steps)

@@ -1,0 +1,38 @@
+-- Calls as values, how an installation stands, and the ledger of the calls that were made.
+use Rattle.std.specs.Prelude.{ℕ, List, [], ◌∷◌, take}
+use Rattle.timetable.specs.Timetables.{Meaning}
+use Rattle.controller.specs.declared.answer.Answer.{Answer}
+use Rattle.controller.specs.Calls.{Call, Open, Row, Confirm, Abandon, Turn, Tell, Tally}
+use Rattle.controller.specs.Ledger.{Ledger, new_ledger, Entry, ledger_after_all, is_accepted}
+use Rattle.controller.specs.Keeping.{State, state_in}
+use Rattle.runs.specs.declared.call.Call.{Call as Asked}
+use Rattle.runs.specs.declared.call.Call.TheVariants.{Open as AsksOpen, Row as AsksRow, Confirm as AsksConfirm, Abandon as AsksAbandon, Turn as AsksTurn, Tell as AsksTell, Tally as AsksTally}
+use Rattle.runs.specs.declared.installation.Installation.{Installation}
+
+-- a call as a value, by what it is given
+abbrev pub call_meant : Asked → Call
+call_meant (AsksOpen row) = Open row.now
+call_meant (AsksRow row) = Row row.now
+call_meant AsksConfirm = Confirm
+call_meant AsksAbandon = Abandon
+call_meant (AsksTurn station day) = Turn station.now day
+call_meant (AsksTell place) = Tell place
+call_meant AsksTally = Tally
+
+-- how an installation stands
+abbrev pub stands : {S : Type 0} → (S → Meaning) → Installation S → State
+stands meaning i = state_in meaning i.controller i.board
+
+-- calls as they are written down: each with whether its answer says that it was accepted
+abbrev pub entries : List Asked → List Answer → List Entry
+entries [] answers = []
+entries (q ∷ qs) [] = []
+entries (q ∷ qs) (a ∷ rest) = (call_meant q, is_accepted a) ∷ entries qs rest
+
+-- an installation begins with nothing written down, over an empty store
+abbrev pub first_ledger : Ledger
+first_ledger = new_ledger []
+
+-- the ledger that is begun with, after the first k of some calls
+abbrev pub ledger_at : Ledger → List Asked → List Answer → ℕ → Ledger
+ledger_at first calls answers k = ledger_after_all first (take k (entries calls answers))

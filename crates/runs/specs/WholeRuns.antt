@@ -1,0 +1,65 @@
+-- Whole runs: all calls of a list, one after another, from a new installation on.
+use Rattle.std.specs.Prelude.{◌≡◌, ℕ, ◌<◌, true, List, length, Some, Result, MatchResult, IfOk, slice_get}
+use Rattle.timetable.specs.Timetables.{Meaning}
+use Rattle.board.specs.declared.line.Line.{Line}
+use Rattle.board.specs.Strikes.{lines_without}
+use Rattle.overlay.specs.Permitted.{EachMayBeDone}
+use Rattle.controller.specs.declared.answer.Answer.{Answer}
+use Rattle.controller.specs.Calls.{Call}
+use Rattle.controller.specs.Ledger.{Ledger, ledger_after, ledger_after_all, LinesOf, AnswerOf, is_accepted}
+use Rattle.controller.specs.Keeping.{State, KeepsTo, is_confirm}
+use Rattle.runs.specs.Calls.{call_meant, entries, ledger_at}
+use Rattle.runs.specs.Runs.{state_of, named_in, Suits}
+use Rattle.runs.specs.Pairs.{SameLines}
+use Rattle.runs.specs.declared.call.Call.{Call as Asked}
+use Rattle.runs.specs.declared.plan.Plan.{Plan}
+use Rattle.runs.specs.declared.run.Run.{Run}
+
+-- one call of a run that is over, by the ledger of the calls before it: its answer is the ledger's, there are the lines that the ledger
+-- gives before and after it, and around an accepted confirm those of the trains that the extract does not name are the same list
+pub record ByLedger (capacity slots : ℕ) (ℓ : Ledger) (call : Call) (answer : Answer) : Type 0 where
+  pub told : AnswerOf ℓ capacity slots call answer
+  pub before : List Line
+  pub shown_before : LinesOf ℓ before
+  pub after : List Line
+  pub shown_after : LinesOf (ledger_after ℓ call (is_accepted answer)) after
+  pub unnamed :
+      is_confirm call ≡ true → is_accepted answer ≡ true → lines_without (named_in ℓ) before ≡ lines_without (named_in ℓ) after
+
+-- each of the first n calls of a run goes by the ledger of the calls before it
+abbrev pub FirstCalls : Ledger → ℕ → ℕ → List Asked → List Answer → ℕ → Type 0
+FirstCalls first capacity slots calls answers n =
+    (k : ℕ) (call : Asked) (answer : Answer) → k < n → slice_get calls k ≡ Some call → slice_get answers k ≡ Some answer
+    → ByLedger capacity slots (ledger_at first calls answers k) (call_meant call) answer
+
+-- the ledger of all calls of a run
+abbrev pub ledger_of_all : Ledger → List Asked → List Answer → Ledger
+ledger_of_all first calls answers = ledger_after_all first (entries calls answers)
+
+-- a run that is over: each call went by the ledger of the calls before it, and controller and board keep to the ledger of all of them:
+-- map, tally and lines are those that it works out afresh
+pub record RunsAll (first : Ledger) (capacity slots : ℕ) (calls : List Asked) (answers : List Answer) (end : State) : Type 0 where
+  pub places : length answers ≡ length calls
+  pub each : FirstCalls first capacity slots calls answers (length calls)
+  pub keeps : KeepsTo end (ledger_of_all first calls answers)
+  -- each transaction that was confirmed could be done when its turn came: N found its key absent, R and D found it there
+  pub confirmed : EachMayBeDone (record { map = first.start; capacity = capacity }) (ledger_of_all first calls answers).confirmed
+  -- capacity and line slots are still those that the answers go by
+  pub capacity_stays : end.standing.store.capacity ≡ capacity
+  pub slots_stay : end.slots ≡ slots
+
+-- a plan is run, or it cannot be and is handed back as it was
+abbrev pub RunOf : {S : Type 0} {M : _} → (S → Meaning) → Ledger → Plan S → Result (Run S M) (Plan S) → Type 0
+RunOf meaning first p r =
+    MatchResult r
+    (λ run. Suits meaning p
+    × RunsAll first (meaning p.store).capacity (length p.slots.now) p.calls.now run.answers.now (state_of meaning run))
+    (λ back. (back ≡ p) × (Suits meaning p → ⊥))
+
+-- two whole runs, over stores of any two makes; where both were run, they show the same if they had the same for each train and were
+-- turned alike
+pub record BothRuns {S T : Type 0} {M N : _} (meaning_s : S → Meaning) (meaning_t : T → Meaning) (first : Ledger) (p : Plan S) (q : Plan T) (r : Result (Run S M) (Plan S)) (t : Result (Run T N) (Plan T)) : Type 0 where
+  pub left : RunOf meaning_s first p r
+  pub right : RunOf meaning_t first q t
+  pub alike : IfOk r (λ a. IfOk t (λ b. SameLines (ledger_of_all first p.calls.now a.answers.now) (ledger_of_all first q.calls.now b.answers.now)
+      (state_of meaning_s a).lines (state_of meaning_t b).lines))

@@ -1,0 +1,33 @@
+// Two installations, over stores of any two makes.
+use crate::run::Run;
+use controller::answer::Answer;
+use timetable::Store;
+
+/// One of two installations.
+#[derive(Clone, Copy, Debug, PartialEq, Eq)]
+pub enum Side {
+    Left,
+    Right,
+}
+
+/// Two installations, each with the calls that it is asked.
+#[derive(Drop)]
+pub struct Pair<'a, 'b, S: Store, T: Store> {
+    pub left: Run<'a, S>,
+    pub right: Run<'b, T>,
+}
+
+impl<S: Store, T: Store> Pair<'_, '_, S, T> {
+    ghost use Rattle.runs.specs.Calls.{first_ledger};
+    ghost use Rattle.runs.specs.Pairs.{WholePromise};
+
+    /// Makes the next call of one side, and answers it; none where all calls of that side are made.
+    pub fn call_next(&mut self, side: Side) -> Option<Answer>
+        ensures { ∥ WholePromise S.meaning T.meaning first_ledger self.old self.new side result ∥₁ }
+    {
+        match side {
+            Side::Left => self.left.call_next(),
+            Side::Right => self.right.call_next(),
+        }
+    }
+}
