@@ -5,3 +5,4 @@ pub mod Reading
 pub mod Texts
 pub mod Contents
 pub mod WholeRows
+pub mod Worked

@@ -1,27 +1,17 @@
 -- The refusals by number, tables of them, and the levels of a fault.
+use denote.Enum.Bare.{sameb}
 use Rattle.std.specs.Prelude.{ℕ, Bool, true, false, cond, List, [], ◌∷◌, Some, None, Ok, Err, Option, Result}
+use Rattle.forms.specs.Letters.{number_beside}
 use Rattle.cif.specs.declared.refusal.Refusal.{Refusal}
-use Rattle.cif.specs.declared.refusal.Refusal.TheVariants.{RowLength, BadByte, UnknownIdentity, OutOfPlace, BadForm, EndsBeforeStart, ReferenceMismatch, KeyPresent, KeyAbsent, TooManyCalls, TooManyVisits, TooManyRows, StoreFull, NoSuchBoard, TooFewSlots}
+use Rattle.cif.specs.declared.refusal.Refusal.TheVariants.{BadForm}
+use Rattle.cif.specs.declared.refusal.TheConstants.Refusal.{NUMBERS as refusal_numbers}
+use Rattle.cif.specs.contracts.refusal.Refusal.{the_type as refusal_type}
 use Rattle.cif.specs.declared.refusal.ColumnFault.{ColumnFault}
 use Rattle.cif.specs.declared.refusal.RowFault.{RowFault}
 
--- the number of each refusal
+-- the number that the enum gives a refusal
 abbrev pub number_of : Refusal → ℕ
-number_of RowLength = 1
-number_of BadByte = 2
-number_of UnknownIdentity = 3
-number_of OutOfPlace = 4
-number_of BadForm = 5
-number_of EndsBeforeStart = 6
-number_of ReferenceMismatch = 7
-number_of KeyPresent = 8
-number_of KeyAbsent = 9
-number_of TooManyCalls = 10
-number_of TooManyVisits = 11
-number_of TooManyRows = 12
-number_of StoreFull = 13
-number_of NoSuchBoard = 14
-number_of TooFewSlots = 15
+number_of r = number_beside (sameb refusal_type) refusal_numbers r
 
 -- a refusal with its column
 abbrev pub fault_at : Refusal → ℕ → ColumnFault

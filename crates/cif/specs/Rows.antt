@@ -1,40 +1,27 @@
 -- A row: 80 printable bytes, of which the first two are one of twelve identities.
-use Rattle.std.specs.Prelude.{◌≡◌, ℕ, ◌+◌, Bool, if◌then◌else◌, not, ◌&&◌, List, [], ◌∷◌, length, Some, None, Ok, Err, codes, Option, Result, MatchResult, ◌==◌, nat_le, slice_index}
+use denote.Enum.Bare.{sameb}
+use Rattle.std.specs.Prelude.{◌≡◌, ℕ, ◌+◌, ◌*◌, ◌/◌, ◌%◌, Bool, if◌then◌else◌, not, ◌&&◌, List, [], ◌∷◌, length, Some, None, Ok, Err, Option, Result, MatchResult, ◌==◌, nat_le, slice_index}
 use Rattle.forms.specs.Bytes.{byte_at}
+use Rattle.forms.specs.Letters.{case_of, number_beside}
 use Rattle.cif.specs.declared.refusal.Refusal.TheVariants.{RowLength, BadByte, UnknownIdentity}
 use Rattle.cif.specs.declared.refusal.ColumnFault.{ColumnFault}
 use Rattle.std.specs.List.{position_from}
 use Rattle.std.specs.Option.{option_map}
 use Rattle.cif.specs.declared.identity.UnknownIdentity.{UnknownIdentity as NoIdentity}
 use Rattle.cif.specs.declared.identity.Identity.{Identity}
-use Rattle.cif.specs.declared.identity.Identity.TheVariants.{Header, BasicSchedule, BasicExtra, Origin, Intermediate, Terminus, ChangeEnRoute, TiplocInsert, TiplocAmend, TiplocDelete, Association, Trailer}
+use Rattle.cif.specs.declared.identity.TheConstants.Identity.{LETTERS as identity_letters}
+use Rattle.cif.specs.contracts.identity.Identity.{the_type as identity_type}
 use Rattle.cif.specs.Refusals.{TableLine, line, is_missing, fault_at}
 
--- the two letters of each identity
+-- the two letters of an identity, which the enum gives it as a number: the first letter's byte before the second's
 abbrev pub letters_of : Identity → List ℕ
-letters_of Header = codes "HD"
-letters_of BasicSchedule = codes "BS"
-letters_of BasicExtra = codes "BX"
-letters_of Origin = codes "LO"
-letters_of Intermediate = codes "LI"
-letters_of Terminus = codes "LT"
-letters_of ChangeEnRoute = codes "CR"
-letters_of TiplocInsert = codes "TI"
-letters_of TiplocAmend = codes "TA"
-letters_of TiplocDelete = codes "TD"
-letters_of Association = codes "AA"
-letters_of Trailer = codes "ZZ"
-
--- the identity whose letters they are
-abbrev pub identity_among : List Identity → ℕ → ℕ → Option Identity
-identity_among [] a b = None
-identity_among (i ∷ is) a b =
-    if a == slice_index (letters_of i) 0 && b == slice_index (letters_of i) 1 then Some i else identity_among is a b
+letters_of i =
+    let number = number_beside (sameb identity_type) identity_letters i in
+    number / 256 ∷ number % 256 ∷ []
 
 -- the identity of two letters, if they are those of one
 abbrev pub identity_of : ℕ → ℕ → Option Identity
-identity_of a b =
-    identity_among (Header ∷ BasicSchedule ∷ BasicExtra ∷ Origin ∷ Intermediate ∷ Terminus ∷ ChangeEnRoute ∷ TiplocInsert ∷ TiplocAmend ∷ TiplocDelete ∷ Association ∷ Trailer ∷ []) a b
+identity_of a b = case_of identity_letters (a * 256 + b)
 
 -- the result is the identity that two letters name, or the letters that name none
 abbrev pub Names : List ℕ → Result Identity NoIdentity → Type 0

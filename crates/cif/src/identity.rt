@@ -5,33 +5,33 @@ ghost use Rattle.cif.specs.Rows.{letters_of, Names};
 use std::error::Error;
 use std::fmt;
 
-/// What a row is, by the two letters that it begins with.
+/// What a row is, by the two letters that it begins with: a case's number is the first letter's byte and then the second's.
 #[derive(Clone, Copy, Debug, PartialEq, Eq)]
 pub enum Identity {
     /// HD: header, which opens an extract.
-    Header,
+    Header = b'H' as isize * 256 + b'D' as isize,
     /// BS: basic schedule, one change to the timetable.
-    BasicSchedule,
+    BasicSchedule = b'B' as isize * 256 + b'S' as isize,
     /// BX: basic schedule, extra details.
-    BasicExtra,
+    BasicExtra = b'B' as isize * 256 + b'X' as isize,
     /// LO: origin location.
-    Origin,
+    Origin = b'L' as isize * 256 + b'O' as isize,
     /// LI: intermediate location.
-    Intermediate,
+    Intermediate = b'L' as isize * 256 + b'I' as isize,
     /// LT: terminating location.
-    Terminus,
+    Terminus = b'L' as isize * 256 + b'T' as isize,
     /// CR: changes en route.
-    ChangeEnRoute,
+    ChangeEnRoute = b'C' as isize * 256 + b'R' as isize,
     /// TI: TIPLOC insert.
-    TiplocInsert,
+    TiplocInsert = b'T' as isize * 256 + b'I' as isize,
     /// TA: TIPLOC amend.
-    TiplocAmend,
+    TiplocAmend = b'T' as isize * 256 + b'A' as isize,
     /// TD: TIPLOC delete.
-    TiplocDelete,
+    TiplocDelete = b'T' as isize * 256 + b'D' as isize,
     /// AA: association of two trains.
-    Association,
+    Association = b'A' as isize * 256 + b'A' as isize,
     /// ZZ: trailer, which closes an extract.
-    Trailer,
+    Trailer = b'Z' as isize * 256 + b'Z' as isize,
 }
 
 /// Two letters that no row begins with.
@@ -48,27 +48,37 @@ impl fmt::Display for UnknownIdentity {
 
 impl Error for UnknownIdentity {}
 
+impl Identity {
+    /// Each identity with its two letters as a number, the first letter's byte before the second's.
+    pub const LETTERS: [(Identity, u16); 12] = [
+        (Identity::Header, Identity::Header as u16),
+        (Identity::BasicSchedule, Identity::BasicSchedule as u16),
+        (Identity::BasicExtra, Identity::BasicExtra as u16),
+        (Identity::Origin, Identity::Origin as u16),
+        (Identity::Intermediate, Identity::Intermediate as u16),
+        (Identity::Terminus, Identity::Terminus as u16),
+        (Identity::ChangeEnRoute, Identity::ChangeEnRoute as u16),
+        (Identity::TiplocInsert, Identity::TiplocInsert as u16),
+        (Identity::TiplocAmend, Identity::TiplocAmend as u16),
+        (Identity::TiplocDelete, Identity::TiplocDelete as u16),
+        (Identity::Association, Identity::Association as u16),
+        (Identity::Trailer, Identity::Trailer as u16),
+    ];
+}
+
 impl TryFrom<[u8; 2]> for Identity {
     type Error = UnknownIdentity;
 
     ghost try_from_gives = { Names };
 
     fn try_from(letters: [u8; 2]) -> Result<Self, UnknownIdentity> {
-        match &letters {
-            b"HD" => Ok(Identity::Header),
-            b"BS" => Ok(Identity::BasicSchedule),
-            b"BX" => Ok(Identity::BasicExtra),
-            b"LO" => Ok(Identity::Origin),
-            b"LI" => Ok(Identity::Intermediate),
-            b"LT" => Ok(Identity::Terminus),
-            b"CR" => Ok(Identity::ChangeEnRoute),
-            b"TI" => Ok(Identity::TiplocInsert),
-            b"TA" => Ok(Identity::TiplocAmend),
-            b"TD" => Ok(Identity::TiplocDelete),
-            b"AA" => Ok(Identity::Association),
-            b"ZZ" => Ok(Identity::Trailer),
-            _ => Err(UnknownIdentity(letters)),
+        let number = u16::from_be_bytes(letters);
+        for (identity, own) in Identity::LETTERS {
+            if own == number {
+                return Ok(identity);
+            }
         }
+        Err(UnknownIdentity(letters))
     }
 }
 
@@ -76,19 +86,6 @@ impl From<Identity> for [u8; 2] {
     ghost from_gives = { λ identity letters. letters ≡ letters_of identity };
 
     fn from(identity: Identity) -> [u8; 2] {
-        match identity {
-            Identity::Header => *b"HD",
-            Identity::BasicSchedule => *b"BS",
-            Identity::BasicExtra => *b"BX",
-            Identity::Origin => *b"LO",
-            Identity::Intermediate => *b"LI",
-            Identity::Terminus => *b"LT",
-            Identity::ChangeEnRoute => *b"CR",
-            Identity::TiplocInsert => *b"TI",
-            Identity::TiplocAmend => *b"TA",
-            Identity::TiplocDelete => *b"TD",
-            Identity::Association => *b"AA",
-            Identity::Trailer => *b"ZZ",
-        }
+        (identity as u16).to_be_bytes()
     }
 }

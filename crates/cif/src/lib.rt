@@ -11,3 +11,4 @@ pub mod refusal;
 pub mod row;
 pub mod schedule;
 pub mod whole;
+pub mod worked;

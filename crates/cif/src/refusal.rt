@@ -42,6 +42,25 @@ pub enum Refusal {
 }
 
 impl Refusal {
+    /// Each refusal with its number.
+    pub const NUMBERS: [(Refusal, u8); 15] = [
+        (Refusal::RowLength, Refusal::RowLength as u8),
+        (Refusal::BadByte, Refusal::BadByte as u8),
+        (Refusal::UnknownIdentity, Refusal::UnknownIdentity as u8),
+        (Refusal::OutOfPlace, Refusal::OutOfPlace as u8),
+        (Refusal::BadForm, Refusal::BadForm as u8),
+        (Refusal::EndsBeforeStart, Refusal::EndsBeforeStart as u8),
+        (Refusal::ReferenceMismatch, Refusal::ReferenceMismatch as u8),
+        (Refusal::KeyPresent, Refusal::KeyPresent as u8),
+        (Refusal::KeyAbsent, Refusal::KeyAbsent as u8),
+        (Refusal::TooManyCalls, Refusal::TooManyCalls as u8),
+        (Refusal::TooManyVisits, Refusal::TooManyVisits as u8),
+        (Refusal::TooManyRows, Refusal::TooManyRows as u8),
+        (Refusal::StoreFull, Refusal::StoreFull as u8),
+        (Refusal::NoSuchBoard, Refusal::NoSuchBoard as u8),
+        (Refusal::TooFewSlots, Refusal::TooFewSlots as u8),
+    ];
+
     /// The number in the table of refusals, 1 to 15.
     pub fn number(self) -> u8
         ensures { result ≡ number_of self }

@@ -18,7 +18,7 @@ impl fmt::Display for UnknownLetter {
 impl Error for UnknownLetter {}
 
 /// What kind of schedule it is, by its STP letter.
-#[derive(Clone, Copy, Debug, PartialEq, Eq, PartialOrd, Ord)]
+#[derive(Clone, Copy, Debug, PartialEq, Eq)]
 pub enum Stp {
     /// C: the train does not run on the days that the schedule covers.
     Cancellation = b'C' as isize,
@@ -47,6 +47,14 @@ impl TryFrom<char> for Stp {
 }
 
 impl Stp {
+    /// Each case with its letter.
+    pub const LETTERS: [(Stp, u8); 4] = [
+        (Stp::Cancellation, Stp::Cancellation as u8),
+        (Stp::ShortTerm, Stp::ShortTerm as u8),
+        (Stp::Overlay, Stp::Overlay as u8),
+        (Stp::Permanent, Stp::Permanent as u8),
+    ];
+
     /// The letter, in upper case.
     pub fn letter(self) -> u8
         ensures value { result ≡ stp_letter self }
@@ -83,6 +91,13 @@ impl TryFrom<char> for TransactionType {
 }
 
 impl TransactionType {
+    /// Each case with its letter.
+    pub const LETTERS: [(TransactionType, u8); 3] = [
+        (TransactionType::New, TransactionType::New as u8),
+        (TransactionType::Revise, TransactionType::Revise as u8),
+        (TransactionType::Delete, TransactionType::Delete as u8),
+    ];
+
     /// The letter, in upper case.
     pub fn letter(self) -> u8
         ensures value { result ≡ transaction_letter self }
@@ -116,6 +131,12 @@ impl TryFrom<char> for Coverage {
 }
 
 impl Coverage {
+    /// Each case with its letter.
+    pub const LETTERS: [(Coverage, u8); 2] = [
+        (Coverage::Full, Coverage::Full as u8),
+        (Coverage::Update, Coverage::Update as u8),
+    ];
+
     /// The letter, in upper case.
     pub fn letter(self) -> u8
         ensures value { result ≡ coverage_letter self }

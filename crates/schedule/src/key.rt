@@ -2,7 +2,7 @@
 use forms::letters::Stp;
 
 /// What a schedule is found by: UID, first day and STP letter. A probe's UID and day may lie past any schedule's.
-#[derive(Clone, Copy, Debug, PartialEq, Eq, PartialOrd, Ord)]
+#[derive(Clone, Copy, Debug, PartialEq, Eq)]
 pub struct Key {
     /// The UID number: the place of the UID's letter, from 0, times 100,000 plus its five digits. A schedule's is below
     /// 2,600,000.

@@ -18,7 +18,8 @@ pub fn rank(stp: Stp) -> u8
         'C' => 0,
         'N' => 1,
         'O' => 2,
-        _ => 3,
+        'P' => 3,
+        _ => unreachable!(),
     }
 }
 
@@ -59,7 +60,7 @@ impl KeyOrder for Key {
     ghost total = { key_total };
 
     fn is_before(&self, other: &Key) -> bool {
-        self < other
+        (self.uid, self.from, rank(self.stp)) < (other.uid, other.from, rank(other.stp))
     }
 }
 

@@ -1,0 +1,32 @@
+-- Worked cases of rows: LO, LI and LT rows by the text of a public time.
+use Rattle.std.specs.Prelude.{◌≡◌, ℕ, List, [], ◌∷◌, ◌++◌, map, replicate, Some, None, Option, codes}
+use Rattle.std.specs.Option.{option_map}
+use Rattle.cif.specs.Refusals.{number_of, fault_of}
+use Rattle.cif.specs.Reading.{read_in}
+
+-- an LO or LT row at WATRLMN: its public time begins at column 16
+abbrev pub end_row : List ℕ → List ℕ → List ℕ
+end_row identity time = identity ++ codes "WATRLMN" ++ replicate 6 32 ++ time ++ replicate 61 32
+
+-- an LI row at WATRLMN: its public arrival begins at column 26, its public departure at column 30
+abbrev pub intermediate_row : List ℕ → List ℕ → List ℕ
+intermediate_row arrival departure = codes "LI" ++ codes "WATRLMN" ++ replicate 16 32 ++ arrival ++ departure ++ replicate 47 32
+
+-- the number and the column with which a row is refused, if it is
+abbrev pub refusal_in : List ℕ → Option (ℕ × ℕ)
+refusal_in row = option_map (λ f. (number_of f.fault.refusal, f.fault.column)) (fault_of (read_in row))
+
+-- one time of the day, and two texts that are none
+abbrev pub times : List (List ℕ)
+times = codes "2359" ∷ codes "2400" ∷ codes "1260" ∷ []
+
+-- the row is read with the first and refused with 5 at a column with the two others
+abbrev pub refused_at : ℕ → List (Option (ℕ × ℕ))
+refused_at column = None ∷ Some (5, column) ∷ Some (5, column) ∷ []
+
+-- the worked cases
+pub record Worked : Type 0 where
+  pub origins : map (λ t. refusal_in (end_row (codes "LO") t)) times ≡ refused_at 16
+  pub arrivals : map (λ t. refusal_in (intermediate_row t (codes "0000"))) times ≡ refused_at 26
+  pub departures : map (λ t. refusal_in (intermediate_row (codes "0000") t)) times ≡ refused_at 30
+  pub termini : map (λ t. refusal_in (end_row (codes "LT") t)) times ≡ refused_at 16
