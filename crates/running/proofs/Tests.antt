@@ -9,7 +9,7 @@ use Rattle.schedule.specs.Records.{key_of}
 use Rattle.timetable.specs.Timetables.{schedule_of}
 use Rattle.running.specs.Running.{Holds, Candidate, InForce, covering}
 use Rattle.running.specs.Walking.{outranking}
-use Rattle.running.specs.Worked.{Worked, week, overlay, cancelled, permanent, later, short}
+use Rattle.running.specs.Worked.{Worked}
 use Rattle.running.proofs.Forces.{some_is, none_some, covers_it}
 use Rattle.running.proofs.Walks.{outranking_true}
 use Rattle.running.proofs.Turns.{is_candidate}
@@ -47,10 +47,12 @@ pub worked : Worked
 unfolding passing
 worked = record {
   fields = record { dates = refl; uids = refl; times = refl };
-  monday = by_test week 212345 23439 overlay refl refl refl refl;
-  wednesday = by_test week 212345 23441 cancelled refl refl refl refl;
-  next_monday = by_test week 212345 23446 permanent refl refl refl refl;
-  saturday = none_by_test week 212345 23444 refl;
-  later_start = by_test (permanent ∷ later ∷ []) 212345 23446 later refl refl refl refl;
-  short_term = by_test (permanent ∷ short ∷ overlay ∷ []) 212345 23439 short refl refl refl refl;
+  rows = record { origins = refl; arrivals = refl; departures = refl; termini = refl };
+  days = refl;
+  monday = by_test _ _ _ _ refl refl refl refl;
+  wednesday = by_test _ _ _ _ refl refl refl refl;
+  saturday = none_by_test _ _ _ refl;
+  next_monday = by_test _ _ _ _ refl refl refl refl;
+  later_start = by_test _ _ _ _ refl refl refl refl;
+  short_term = by_test _ _ _ _ refl refl refl refl;
 }

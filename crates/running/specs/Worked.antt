@@ -1,51 +1,78 @@
--- Worked cases: those of the fields, and a worked week.
-use Rattle.std.specs.Prelude.{ℕ, Bool, true, false, List, [], ◌∷◌}
+-- Worked cases: those of the fields and the rows, and a worked week, from the texts of its rows.
+use Rattle.std.specs.Prelude.{◌≡◌, ℕ, Bool, List, [], ◌∷◌, map, Some, None, Option, codes, slice_index}
+use Rattle.std.specs.Option.{option_map}
 use Rattle.forms.specs.declared.letters.Stp.{Stp}
-use Rattle.forms.specs.declared.letters.Stp.TheVariants.{Cancellation, ShortTerm, Overlay, Permanent}
+use Rattle.forms.specs.Letters.{stp_in}
+use Rattle.forms.specs.Forms.{uid_in, date_in, days_run_in}
 use Rattle.forms.specs.Laws.{Worked as Fields}
+use Rattle.cif.specs.Worked.{Worked as Rows}
 use Rattle.schedule.specs.declared.record.Record.{Record}
 use Rattle.running.specs.Running.{Candidate, InForce}
 
--- Monday to Friday
-abbrev pub weekdays : List Bool
-weekdays = true ∷ true ∷ true ∷ true ∷ true ∷ false ∷ false ∷ []
+-- the schedule of a UID, an STP letter, a first and a last day and days run, as far as it matters to what is in force
+abbrev pub as_read : Option ℕ → Option Stp → Option (ℕ × ℕ) → Option (ℕ × ℕ) → Option (List Bool) → Option Record
+as_read (Some uid) (Some stp) (Some from) (Some to) (Some days) =
+    Some (record { key = record { uid = uid; from = from.0; stp = stp }; to = to.0; days = days; train = []; operator = []; destination = []; calls = []; count = 0 })
+as_read _ _ _ _ _ = None
 
--- Wednesday alone
-abbrev pub wednesdays : List Bool
-wednesdays = false ∷ false ∷ true ∷ false ∷ false ∷ false ∷ false ∷ []
-
--- a schedule of the train C12345, as far as it matters to what is in force
-abbrev pub run : Stp → ℕ → ℕ → List Bool → Record
-run stp from to days =
-    record { key = record { uid = 212345; from = from; stp = stp }; to = to; days = days; train = []; operator = []; destination = []; calls = []; count = 0 }
+-- a schedule of the train C12345, by the texts of STP letter, first and last day and days run
+abbrev pub run : List ℕ → List ℕ → List ℕ → List ℕ → Option Record
+run letter from to days = as_read (uid_in (codes "C12345")) (stp_in (slice_index letter 0)) (date_in from) (date_in to) (days_run_in days)
 
 -- P from 231211 to 240531 and O from 240304 to 240308 on Mondays to Fridays, C on the Wednesday 240306
-abbrev pub permanent : Record
-permanent = run Permanent 23355 23527 weekdays
+abbrev pub permanent : Option Record
+permanent = run (codes "P") (codes "231211") (codes "240531") (codes "1111100")
 
-abbrev pub overlay : Record
-overlay = run Overlay 23439 23443 weekdays
+abbrev pub overlay : Option Record
+overlay = run (codes "O") (codes "240304") (codes "240308") (codes "1111100")
 
-abbrev pub cancelled : Record
-cancelled = run Cancellation 23441 23441 wednesdays
-
--- the map of these three
-abbrev pub week : List Record
-week = permanent ∷ overlay ∷ cancelled ∷ []
+abbrev pub cancelled : Option Record
+cancelled = run (codes "C") (codes "240306") (codes "240306") (codes "0010000")
 
 -- a second permanent schedule that begins later, and a new short-term train over the overlay's days
-abbrev pub later : Record
-later = run Permanent 23432 23527 weekdays
+abbrev pub later : Option Record
+later = run (codes "P") (codes "240226") (codes "240531") (codes "1111100")
 
-abbrev pub short : Record
-short = run ShortTerm 23439 23443 weekdays
+abbrev pub short : Option Record
+short = run (codes "N") (codes "240304") (codes "240308") (codes "1111100")
 
--- the table of worked cases
+-- the map of some schedules, if each was read
+abbrev pub map_of : List (Option Record) → Option (List Record)
+map_of [] = Some []
+map_of (Some s ∷ ss) = option_map (λ m. s ∷ m) (map_of ss)
+map_of (None ∷ ss) = None
+
+-- the map of the first three
+abbrev pub week : Option (List Record)
+week = map_of (permanent ∷ overlay ∷ cancelled ∷ [])
+
+-- all was read, and the schedule is the one in force
+abbrev pub AsRead : Option (List Record) → Option ℕ → Option (ℕ × ℕ) → Option Record → Type 0
+AsRead (Some m) (Some uid) (Some day) (Some s) = InForce m uid day.0 s
+AsRead _ _ _ _ = ⊥
+
+-- all was read, and there is no candidate
+abbrev pub NoneAsRead : Option (List Record) → Option ℕ → Option (ℕ × ℕ) → Type 0
+NoneAsRead (Some m) (Some uid) (Some day) = (s : Record) → Candidate m uid day.0 s → ⊥
+NoneAsRead _ _ _ = ⊥
+
+-- on a day the train C12345 has this schedule of a map in force
+abbrev pub IsInForce : Option (List Record) → List ℕ → Option Record → Type 0
+IsInForce m day s = AsRead m (uid_in (codes "C12345")) (date_in day) s
+
+-- on a day the train C12345 has none of a map in force
+abbrev pub NoneInForce : Option (List Record) → List ℕ → Type 0
+NoneInForce m day = NoneAsRead m (uid_in (codes "C12345")) (date_in day)
+
+-- the table of worked cases; weekdays count from Monday, which is 0, so that Saturday is 5
 pub record Worked : Type 0 where
   pub fields : Fields
-  pub monday : InForce week 212345 23439 overlay
-  pub wednesday : InForce week 212345 23441 cancelled
-  pub next_monday : InForce week 212345 23446 permanent
-  pub saturday : (s : Record) → Candidate week 212345 23444 s → ⊥
-  pub later_start : InForce (permanent ∷ later ∷ []) 212345 23446 later
-  pub short_term : InForce (permanent ∷ short ∷ overlay ∷ []) 212345 23439 short
+  pub rows : Rows
+  pub days : map date_in (codes "240304" ∷ codes "240306" ∷ codes "240309" ∷ codes "240311" ∷ [])
+      ≡ (Some (23439, 0) ∷ Some (23441, 2) ∷ Some (23444, 5) ∷ Some (23446, 0) ∷ [])
+  pub monday : IsInForce week (codes "240304") overlay
+  pub wednesday : IsInForce week (codes "240306") cancelled
+  pub saturday : NoneInForce week (codes "240309")
+  pub next_monday : IsInForce week (codes "240311") permanent
+  pub later_start : IsInForce (map_of (permanent ∷ later ∷ [])) (codes "240311") later
+  pub short_term : IsInForce (map_of (permanent ∷ short ∷ overlay ∷ [])) (codes "240304") short
