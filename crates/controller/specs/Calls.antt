@@ -11,8 +11,7 @@ use Rattle.cif.specs.Rows.{row_lines, identity_in, whole_in}
 use Rattle.cif.specs.Reading.{read_in, field_lines_in, told_in, letters_in, blanks}
 use Rattle.board.specs.Turning.{turn_lines, slot_lines}
 use Rattle.extract.specs.declared.stage.Stage.{Stage}
-use Rattle.extract.specs.declared.stage.Stage.TheVariants.{Idle, Complete}
-use Rattle.extract.specs.Stages.{is_stage}
+use Rattle.extract.specs.Stages.{is_idle, is_complete}
 use Rattle.extract.specs.Progress.{Progress}
 use Rattle.extract.specs.Judging.{Standing, content_lines, verdict_unless, is_misplaced, is_no_opening}
 use Rattle.controller.specs.declared.fault.ExtractFault.{ExtractFault}
@@ -48,8 +47,8 @@ misfits misplaced stage None = true
 abbrev pub is_out_of_place : Call → Stage → Bool
 is_out_of_place (Open row) stage = misfits is_no_opening stage (identity_in row)
 is_out_of_place (Row row) stage = misfits is_misplaced stage (identity_in row)
-is_out_of_place Confirm stage = not (is_stage stage Complete)
-is_out_of_place Abandon stage = is_stage stage Idle
+is_out_of_place Confirm stage = not (is_complete stage)
+is_out_of_place Abandon stage = is_idle stage
 is_out_of_place _ stage = false
 
 -- the column that is told with it: 1, or 0 where there is no row
@@ -73,7 +72,7 @@ board_lines _ slots capacity = []
 
 -- those lines of the table that can hold of a confirmation: the extract is not complete, or the line slots are too few
 abbrev pub confirm_lines : Standing → ℕ → List TableLine
-confirm_lines s slots = line OutOfPlace 0 (not (is_stage s.extract.stage Complete)) ∷ slot_lines slots s.store.capacity
+confirm_lines s slots = line OutOfPlace 0 (not (is_complete s.extract.stage)) ∷ slot_lines slots s.store.capacity
 
 -- THE TABLE OF REFUSALS, in the order of its lines, over what a call is judged by and the board's line slots
 abbrev pub refusals : Call → Standing → ℕ → List TableLine

@@ -7,16 +7,16 @@ use Rattle.board.specs.Lines.{LinesFor}
 use Rattle.controller.specs.declared.controller.Controller.{Controller}
 use Rattle.controller.specs.Shown.{store_of, progress_in}
 use Rattle.extract.specs.declared.stage.Stage.TheVariants.{Idle, Complete}
-use Rattle.extract.specs.Stages.{is_stage}
+use Rattle.extract.specs.Stages.{is_idle as is_idle_stage, is_complete as is_complete_stage}
 use Rattle.controller_tasks.specs.declared.follow.Followed.{Followed}
 
 -- whether no extract is open
 abbrev pub is_idle : {S : Type 0} → Controller S → Bool
-is_idle c = is_stage (progress_in c).stage Idle
+is_idle c = is_idle_stage (progress_in c).stage
 
 -- whether the open extract is complete
 abbrev pub is_complete : {S : Type 0} → Controller S → Bool
-is_complete c = is_stage (progress_in c).stage Complete
+is_complete c = is_complete_stage (progress_in c).stage
 
 -- its controller
 abbrev pub controller_of : {S : Type 0} → Followed S → Controller S

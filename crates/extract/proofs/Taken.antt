@@ -5,7 +5,7 @@ use Rattle.cif.specs.declared.content.Location.{Location}
 use Rattle.cif.specs.declared.content.Content.{Content}
 use Rattle.cif.specs.declared.content.Content.TheVariants.{Operator, Origin, Intermediate, Terminus, Unread}
 use Rattle.cif.specs.declared.identity.Identity.{Identity}
-use Rattle.cif.specs.declared.identity.Identity.TheVariants.{Trailer, Origin as IsOrigin, Intermediate as IsIntermediate, Terminus as IsTerminus}
+use Rattle.cif.specs.declared.identity.Identity.TheVariants.{Origin as IsOrigin, Intermediate as IsIntermediate, Terminus as IsTerminus}
 use Rattle.cif.specs.declared.refusal.Refusal.TheVariants.{OutOfPlace, TooManyRows, StoreFull}
 use Rattle.cif.specs.declared.refusal.ColumnFault.{ColumnFault}
 use Rattle.cif.specs.Refusals.{TableLine, line, uppermost, fault_at, then}
@@ -15,7 +15,7 @@ use Rattle.schedule.specs.Transactions.{change_of}
 use Rattle.schedule.specs.Building.{with_operator, with_call, bringing, bringing_lines}
 use Rattle.extract.specs.declared.stage.Stage.{Stage}
 use Rattle.extract.specs.declared.stage.Stage.TheVariants.{Between, Begun, Extra, Running}
-use Rattle.extract.specs.Stages.{next_stage, is_identity}
+use Rattle.extract.specs.Stages.{next_stage, is_trailer}
 use Rattle.extract.specs.declared.extract.Extract.{Extract}
 use Rattle.extract.specs.Progress.{Progress, ended_by, after}
 use Rattle.extract.specs.Judging.{Standing, is_misplaced, row_verdict, verdict_on, value_unless, room_lines, call_row_lines, content_lines, GoesBy}
@@ -39,7 +39,7 @@ module _ (s : Standing) where
       go true e = rw e refl
       go false e = rw (e, st) refl
 
-  pub unread_taken : (i : Identity) (next : Stage) → next_stage s.extract.stage i false ≡ Some next → is_identity i Trailer ≡ false → verdict_on s (Unread i) ≡ value_unless (room_lines s.extract.taken) (next_progress s.extract next s.extract.draft [])
+  pub unread_taken : (i : Identity) (next : Stage) → next_stage s.extract.stage i false ≡ Some next → is_trailer i ≡ false → verdict_on s (Unread i) ≡ value_unless (room_lines s.extract.taken) (next_progress s.extract next s.extract.draft [])
   unread_taken i next st t = go (leb 9999 s.extract.taken) refl
     where
       go : (b : Bool) → leb 9999 s.extract.taken ≡ b → verdict_on s (Unread i) ≡ value_unless (room_lines s.extract.taken) (next_progress s.extract next s.extract.draft [])

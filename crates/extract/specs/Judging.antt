@@ -12,7 +12,6 @@ use Rattle.cif.specs.declared.content.Location.{Location}
 use Rattle.cif.specs.declared.content.Content.{Content}
 use Rattle.cif.specs.Contents.{header_of, basic_schedule_of, location_of}
 use Rattle.cif.specs.declared.identity.Identity.{Identity}
-use Rattle.cif.specs.declared.identity.Identity.TheVariants.{Trailer, Header as IsHeader}
 use Rattle.cif.specs.declared.refusal.Refusal.TheVariants.{OutOfPlace, ReferenceMismatch, KeyPresent, KeyAbsent, TooManyRows, StoreFull}
 use Rattle.cif.specs.declared.refusal.ColumnFault.{ColumnFault}
 use Rattle.cif.specs.Refusals.{TableLine, line, uppermost, is_missing, fault_at, then}
@@ -24,8 +23,7 @@ use Rattle.timetable.specs.Timetables.{Meaning, is_full}
 use Rattle.timetable.specs.Laws.{has_key}
 use Rattle.overlay.specs.Overlays.{with_done}
 use Rattle.extract.specs.declared.stage.Stage.{Stage}
-use Rattle.extract.specs.declared.stage.Stage.TheVariants.{Idle}
-use Rattle.extract.specs.Stages.{next_stage, is_identity, is_stage}
+use Rattle.extract.specs.Stages.{next_stage, is_idle, is_header, is_trailer}
 use Rattle.extract.specs.Progress.{Progress, key_in, identity_for, after}
 
 -- what a row is judged by: the extract so far, what the store means, and the reference in force
@@ -83,7 +81,7 @@ past_transactions s c = is_some (basic_schedule_of c) && nat_le 32 (length s.ext
 
 -- 9,999 rows are taken and this is not ZZ
 abbrev pub past_rows : Standing → Content → Bool
-past_rows s c = nat_le 9999 s.extract.taken && not (is_identity (identity_for c) Trailer)
+past_rows s c = nat_le 9999 s.extract.taken && not (is_trailer (identity_for c))
 
 -- the lines of a BS, by whether it is new, its key is there, too many rows or transactions came before it, and the overlay is full
 abbrev pub change_lines : Bool → Bool → Bool → Bool → List TableLine
@@ -127,7 +125,7 @@ verdict_unless misplaced s i row = cond misplaced (Err (fault_at OutOfPlace 1)) 
 
 -- to the call row a row is out of place where the stage does not take it; an HD is always out of place there
 abbrev pub is_misplaced : Stage → Identity → Bool
-is_misplaced stage i = is_identity i IsHeader || is_missing (next_stage stage i false)
+is_misplaced stage i = is_header i || is_missing (next_stage stage i false)
 
 -- what the call row makes of a row of an identity
 abbrev pub row_verdict : Standing → Identity → List ℕ → Result Progress ColumnFault
@@ -135,7 +133,7 @@ row_verdict s i row = verdict_unless (is_misplaced s.extract.stage i) s i row
 
 -- to the call open only an HD when idle is in place
 abbrev pub is_no_opening : Stage → Identity → Bool
-is_no_opening stage i = not (is_stage stage Idle && is_identity i IsHeader)
+is_no_opening stage i = not (is_idle stage && is_header i)
 
 -- what the call open makes of a row of an identity
 abbrev pub open_verdict : Standing → Identity → List ℕ → Result Progress ColumnFault
@@ -143,7 +141,7 @@ open_verdict s i row = verdict_unless (is_no_opening s.extract.stage i) s i row
 
 -- abandon has nothing to drop when idle
 abbrev pub idle_lines : Stage → List TableLine
-idle_lines stage = line OutOfPlace 0 (is_stage stage Idle) ∷ []
+idle_lines stage = line OutOfPlace 0 (is_idle stage) ∷ []
 
 -- a call did what the rule says: the extract is what it gives, or it tells the rule's fault
 abbrev pub GoesBy : {X E : Type 0} → X → Result X E → Result (Unit {0}) E → Type 0

@@ -1,74 +1,47 @@
 -- The stages of an extract: which rows each takes, and the stage after.
-use Rattle.std.specs.Prelude.{ℕ, Bool, true, false, cond, ◌&&◌, List, [], ◌∷◌, Some, None, Option, ◌==◌, nat_le, nat_lt}
+use Rattle.std.specs.Prelude.{ℕ, Bool, true, false, cond, Some, None, Option, nat_le, nat_lt}
 use Rattle.cif.specs.declared.identity.Identity.{Identity}
 use Rattle.cif.specs.declared.identity.Identity.TheVariants.{Header, BasicSchedule, BasicExtra, Origin, Intermediate, Terminus, ChangeEnRoute, TiplocInsert, TiplocAmend, TiplocDelete, Association, Trailer}
 use Rattle.extract.specs.declared.stage.Stage.{Stage}
 use Rattle.extract.specs.declared.stage.Stage.TheVariants.{Idle, Between, Begun, Extra, Running, Changed, Complete}
 
--- a number for each stage, by which they are told apart
-abbrev pub stage_number : Stage → ℕ
-stage_number Idle = 0
-stage_number Between = 1
-stage_number Begun = 2
-stage_number Extra = 3
-stage_number Running = 4
-stage_number Changed = 5
-stage_number Complete = 6
+-- no extract is open
+abbrev pub is_idle : Stage → Bool
+is_idle Idle = true
+is_idle _ = false
 
--- a number for each identity
-abbrev pub identity_number : Identity → ℕ
-identity_number Header = 0
-identity_number BasicSchedule = 1
-identity_number BasicExtra = 2
-identity_number Origin = 3
-identity_number Intermediate = 4
-identity_number Terminus = 5
-identity_number ChangeEnRoute = 6
-identity_number TiplocInsert = 7
-identity_number TiplocAmend = 8
-identity_number TiplocDelete = 9
-identity_number Association = 10
-identity_number Trailer = 11
+-- ZZ was taken
+abbrev pub is_complete : Stage → Bool
+is_complete Complete = true
+is_complete _ = false
 
--- whether two stages are one
-abbrev pub is_stage : Stage → Stage → Bool
-is_stage a b = stage_number a == stage_number b
+-- an HD
+abbrev pub is_header : Identity → Bool
+is_header Header = true
+is_header _ = false
 
--- whether two identities are one
-abbrev pub is_identity : Identity → Identity → Bool
-is_identity a b = identity_number a == identity_number b
+-- a ZZ
+abbrev pub is_trailer : Identity → Bool
+is_trailer Trailer = true
+is_trailer _ = false
 
--- a line of the table: a stage, a row that it takes, and the stage after
-abbrev pub Step : Type 0
-Step = (Stage × Identity × Stage)
-
--- the table; the stage after a BS is between where it deletes or cancels, and begun otherwise
-abbrev pub steps : Stage → List Step
-steps after_schedule =
-    (Idle, Header, Between)
-    ∷ (Between, BasicSchedule, after_schedule)
-    ∷ (Between, TiplocInsert, Between)
-    ∷ (Between, TiplocAmend, Between)
-    ∷ (Between, TiplocDelete, Between)
-    ∷ (Between, Association, Between)
-    ∷ (Between, Trailer, Complete)
-    ∷ (Begun, BasicExtra, Extra)
-    ∷ (Begun, Origin, Running)
-    ∷ (Extra, Origin, Running)
-    ∷ (Running, Intermediate, Running)
-    ∷ (Running, ChangeEnRoute, Changed)
-    ∷ (Running, Terminus, Between)
-    ∷ (Changed, Intermediate, Running)
-    ∷ []
-
--- the stage after a row, by some lines of the table: the first that has the stage and the row
-abbrev pub step_in : List Step → Stage → Identity → Option Stage
-step_in [] s i = None
-step_in (t ∷ ts) s i = cond (is_stage t.0 s && is_identity t.1 i) (Some t.2) (step_in ts s i)
-
--- the stage after a row, if the stage takes it
+-- the stage after a row, if the stage takes it; after a BS it is between where that deletes or cancels, and begun otherwise
 abbrev pub next_stage : Stage → Identity → Bool → Option Stage
-next_stage s i brief = step_in (steps (cond brief Between Begun)) s i
+next_stage Idle Header brief = Some Between
+next_stage Between BasicSchedule brief = Some (cond brief Between Begun)
+next_stage Between TiplocInsert brief = Some Between
+next_stage Between TiplocAmend brief = Some Between
+next_stage Between TiplocDelete brief = Some Between
+next_stage Between Association brief = Some Between
+next_stage Between Trailer brief = Some Complete
+next_stage Begun BasicExtra brief = Some Extra
+next_stage Begun Origin brief = Some Running
+next_stage Extra Origin brief = Some Running
+next_stage Running Intermediate brief = Some Running
+next_stage Running ChangeEnRoute brief = Some Changed
+next_stage Running Terminus brief = Some Between
+next_stage Changed Intermediate brief = Some Running
+next_stage _ _ brief = None
 
 -- a schedule is being read
 abbrev pub is_reading : Stage → Bool

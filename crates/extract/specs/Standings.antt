@@ -5,7 +5,6 @@ use Rattle.cif.specs.declared.content.Action.{Action}
 use Rattle.cif.specs.declared.content.Action.TheVariants.{New as AsksNew, Revise as AsksRevise, Delete as AsksDelete}
 use Rattle.schedule.specs.declared.transaction.Change.{Change}
 use Rattle.cif.specs.declared.identity.Identity.{Identity}
-use Rattle.cif.specs.declared.identity.Identity.TheVariants.{Trailer}
 use Rattle.schedule.specs.Records.{in_range}
 use Rattle.schedule.specs.Transactions.{change_of}
 use Rattle.timetable.specs.Timetables.{Meaning}
@@ -13,7 +12,7 @@ use Rattle.overlay.specs.declared.overlay.Overlay.{Overlay}
 use Rattle.overlay.specs.Overlays.{pending_in}
 use Rattle.extract.specs.declared.extract.Extract.{Extract}
 use Rattle.extract.specs.declared.stage.Stage.{Stage}
-use Rattle.extract.specs.Stages.{next_stage, is_identity}
+use Rattle.extract.specs.Stages.{next_stage, is_trailer}
 use Rattle.extract.specs.Progress.{Progress, begun_by}
 use Rattle.extract.specs.Judging.{Standing}
 
@@ -41,4 +40,4 @@ StandsOn e s = s.extract ≡ progress_with e s.extract.changes
 
 -- a row of which nothing is read takes an extract from one stage to the next
 abbrev pub Passes : Identity → Stage → Stage → Type 0
-Passes i stage next = (next_stage stage i false ≡ Some next) × (is_identity i Trailer ≡ false)
+Passes i stage next = (next_stage stage i false ≡ Some next) × (is_trailer i ≡ false)

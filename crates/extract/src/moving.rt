@@ -5,7 +5,7 @@ ghost use Rattle.cif.specs.declared.identity.Identity.{Identity};
 ghost use Rattle.cif.specs.declared.identity.Identity.TheVariants.{Origin as IsOrigin, Intermediate as IsIntermediate};
 ghost use Rattle.overlay.specs.Overlays.{pending_in};
 ghost use Rattle.extract.specs.declared.stage.Stage.TheVariants.{Idle as IsIdle, Between as IsBetween, Begun as IsBegun, Extra as IsExtra, Running as IsRunning};
-ghost use Rattle.extract.specs.Stages.{next_stage, has_room, is_stage};
+ghost use Rattle.extract.specs.Stages.{next_stage, has_room, is_idle};
 ghost use Rattle.extract.specs.Judging.{Standing, verdict_on, GoesBy};
 ghost use Rattle.extract.specs.Standings.{progress_with, standing, range_in, StandsOn, Passes};
 
@@ -21,7 +21,7 @@ use timetable::Store;
 impl Extract {
     // A row of which nothing is read.
     pub(crate) fn pass(&mut self, next: Stage) -> Result<(), ColumnFault>
-        requires open { is_stage next IsIdle ≡ false }
+        requires open { is_idle next ≡ false }
         ensures told { (s : Standing) (i : Identity)
             → StandsOn self.old s → Passes i self.old.stage next
             → GoesBy (progress_with self.new s.extract.changes) (verdict_on s (Unread i)) result }
