@@ -30,6 +30,11 @@ Names letters r =
     (λ i. identity_of (slice_index letters 0) (slice_index letters 1) ≡ Some i)
     (λ e. (identity_of (slice_index letters 0) (slice_index letters 1) ≡ None) × (e.0 ≡ letters))
 
+-- an identity has its two letters, which are read as that identity again
+abbrev pub HasLetters : Identity → List ℕ → Type 0
+HasLetters identity letters =
+    (letters ≡ letters_of identity) × (identity_of (slice_index letters 0) (slice_index letters 1) ≡ Some identity)
+
 -- the identity at columns 1 and 2
 abbrev pub identity_in : List ℕ → Option Identity
 identity_in row = identity_of (byte_at 1 row) (byte_at 2 row)

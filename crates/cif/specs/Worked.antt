@@ -1,6 +1,8 @@
--- Worked cases of rows: LO, LI and LT rows by the text of a public time.
+-- Worked cases of rows: the numbers of the refusals, and LO, LI and LT rows by the text of a public time.
 use Rattle.std.specs.Prelude.{◌≡◌, ℕ, List, [], ◌∷◌, ◌++◌, map, replicate, Some, None, Option, codes}
+use Rattle.std.specs.List.{range_with_len}
 use Rattle.std.specs.Option.{option_map}
+use Rattle.cif.specs.declared.refusal.TheConstants.Refusal.{NUMBERS as refusal_numbers}
 use Rattle.cif.specs.Refusals.{number_of, fault_of}
 use Rattle.cif.specs.Reading.{read_in}
 
@@ -24,8 +26,9 @@ times = codes "2359" ∷ codes "2400" ∷ codes "1260" ∷ []
 abbrev pub refused_at : ℕ → List (Option (ℕ × ℕ))
 refused_at column = None ∷ Some (5, column) ∷ Some (5, column) ∷ []
 
--- the worked cases
+-- the worked cases; the refusals have the numbers 1 to 15 in turn
 pub record Worked : Type 0 where
+  pub numbers : map (λ t. t.1) refusal_numbers ≡ range_with_len 1 15
   pub origins : map (λ t. refusal_in (end_row (codes "LO") t)) times ≡ refused_at 16
   pub arrivals : map (λ t. refusal_in (intermediate_row t (codes "0000"))) times ≡ refused_at 26
   pub departures : map (λ t. refusal_in (intermediate_row (codes "0000") t)) times ≡ refused_at 30

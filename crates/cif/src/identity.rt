@@ -1,6 +1,6 @@
 // What a row is, by its first two columns.
-ghost use Rattle.std.specs.Prelude.{◌≡◌, Some, codes};
-ghost use Rattle.cif.specs.Rows.{letters_of, Names};
+ghost use Rattle.std.specs.Prelude.{Some, codes};
+ghost use Rattle.cif.specs.Rows.{HasLetters, Names};
 
 use std::error::Error;
 use std::fmt;
@@ -83,7 +83,7 @@ impl TryFrom<[u8; 2]> for Identity {
 }
 
 impl From<Identity> for [u8; 2] {
-    ghost from_gives = { λ identity letters. letters ≡ letters_of identity };
+    ghost from_gives = { HasLetters };
 
     fn from(identity: Identity) -> [u8; 2] {
         (identity as u16).to_be_bytes()

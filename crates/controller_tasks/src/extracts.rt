@@ -3,10 +3,11 @@ ghost use Rattle.std.specs.Prelude.{◌≡◌, OnErr};
 ghost use Rattle.cif.specs.Refusals.{fault_of};
 ghost use Rattle.controller.specs.Calls.{refusal_of};
 ghost use Rattle.controller.specs.Shown.{store_of, standing_in};
-ghost use Rattle.controller_tasks.specs.Handing.{handed};
+ghost use Rattle.controller_tasks.specs.Handing.{begins_as_header, handed};
 
 use board::display::Board;
 use board::line::Line;
+use cif::identity::Identity;
 use cif::refusal::Refusal;
 use controller::controller::Controller;
 use controller::fault::ExtractFault;
@@ -22,6 +23,18 @@ use wording::answers::RefusedWords;
 use wording::changes::ChangeWords;
 use wording::words::{Text, stage_name};
 
+// Whether a row begins with the letters of an HD.
+fn begins_as_header(row: &[u8]) -> bool
+    ensures { result ≡ begins_as_header row.now }
+{
+    match row {
+        [first, second, ..] => {
+            matches!(Identity::try_from([*first, *second]), Ok(Identity::Header))
+        }
+        _ => false,
+    }
+}
+
 /// Hands a row, any bytes, to the controller: one that begins with HD to open, any other to row.
 /// What is refused, and with what, is in docs/refusals.md; then nothing changes.
 pub fn hand<S: Store>(controller: &mut Controller<S>, row: &[u8]) -> Result<(), ExtractFault>
@@ -30,9 +43,10 @@ pub fn hand<S: Store>(controller: &mut Controller<S>, row: &[u8]) -> Result<(), 
     ensures unchanged { OnErr result (controller.new ≡ controller.old) }
     ensures store { store_of controller.new ≡ store_of controller.old }
 {
-    match row {
-        [b'H', b'D', ..] => controller.open(row),
-        _ => controller.row(row),
+    if begins_as_header(row) {
+        controller.open(row)
+    } else {
+        controller.row(row)
     }
 }
 

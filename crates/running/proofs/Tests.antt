@@ -47,7 +47,7 @@ pub worked : Worked
 unfolding passing
 worked = record {
   fields = record { dates = refl; uids = refl; times = refl };
-  rows = record { origins = refl; arrivals = refl; departures = refl; termini = refl };
+  rows = record { numbers = refl; origins = refl; arrivals = refl; departures = refl; termini = refl };
   days = refl;
   monday = by_test _ _ _ _ refl refl refl refl;
   wednesday = by_test _ _ _ _ refl refl refl refl;

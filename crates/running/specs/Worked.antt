@@ -5,7 +5,7 @@ use Rattle.forms.specs.declared.letters.Stp.{Stp}
 use Rattle.forms.specs.Letters.{stp_in}
 use Rattle.forms.specs.Forms.{uid_in, date_in, days_run_in}
 use Rattle.forms.specs.Laws.{Worked as Fields}
-use Rattle.cif.specs.Worked.{Worked as Rows}
+use Rattle.cif.specs.Worked.{Worked as RowCases}
 use Rattle.schedule.specs.declared.record.Record.{Record}
 use Rattle.running.specs.Running.{Candidate, InForce}
 
@@ -67,7 +67,7 @@ NoneInForce m day = NoneAsRead m (uid_in (codes "C12345")) (date_in day)
 -- the table of worked cases; weekdays count from Monday, which is 0, so that Saturday is 5
 pub record Worked : Type 0 where
   pub fields : Fields
-  pub rows : Rows
+  pub rows : RowCases
   pub days : map date_in (codes "240304" ∷ codes "240306" ∷ codes "240309" ∷ codes "240311" ∷ [])
       ≡ (Some (23439, 0) ∷ Some (23441, 2) ∷ Some (23444, 5) ∷ Some (23446, 0) ∷ [])
   pub monday : IsInForce week (codes "240304") overlay
