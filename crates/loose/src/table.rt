@@ -2,6 +2,7 @@
 ghost use Rattle.std.specs.Prelude.{◌≡◌, ℕ, ◌-◌, ◌<◌, [], length, take, slice_index_or, slice_set};
 ghost use Rattle.maps.specs.Maps.{lookup, map_from};
 ghost use Rattle.ordered.specs.Tables.{items, room, RestKept};
+ghost use Rattle.loose.specs.Order.{in_place_or_last, last_takes_place};
 ghost use Rattle.loose.specs.Maps.{map_rises, map_fits};
 
 use crate::loose::Loose;
@@ -28,6 +29,10 @@ impl<E: Keyed> Mapped<E> for Loose<'_, E> {
     ghost map = { λ t. map_from E.Key.before E.keyed (items t.elements) };
 
     ghost slots = { λ t. t.elements };
+
+    ghost order_after_put = { in_place_or_last E.Key.before E.keyed };
+
+    ghost order_after_removal = { last_takes_place E.Key.before E.keyed };
 
     ghost rises = { λ t.
         map_rises E.Key.before E.keyed E.Key.irreflexive E.Key.transitive E.Key.total

@@ -1,4 +1,5 @@
 pub mod Changes
+pub mod Edited
 pub mod Halves
 pub mod Laws
 pub mod Shifts

@@ -1,3 +1,5 @@
 pub mod Bounds
 pub mod Tables
 pub mod Fits
+pub mod Edits
+pub mod Chains

@@ -1,9 +1,10 @@
 // A table seen as a map: its elements in the order of their keys.
-ghost use Rattle.std.specs.Prelude.{◌≡◌, ◌≤◌, true, List, length, is_ok, IsTrue, OnErr};
+ghost use Rattle.std.specs.Prelude.{◌≡◌, ◌≤◌, true, List, [], ◌∷◌, length, is_ok, IsTrue, OnErr};
 ghost use Rattle.std.specs.Bool.{OnFalse};
 ghost use Rattle.maps.specs.Maps.{ascending, lookup, ceiling};
 ghost use Rattle.ordered.specs.declared.slots.Slots.{Slots};
 ghost use Rattle.ordered.specs.Tables.{room, Put, Removed, RestKept};
+ghost use Rattle.ordered.specs.Edits.{Edited, Put as ToPut, Remove as ToRemove};
 
 use crate::keys::{KeyOrder, Keyed};
 use crate::table::Full;
@@ -13,6 +14,11 @@ pub trait Mapped<E: Keyed> {
     ghost map: { Self → List E };
 
     ghost slots: { Self → Slots E };
+
+    // the elements in the order of their slots, after one is put, and after that of a key is removed
+    ghost order_after_put: { List E → E → List E };
+
+    ghost order_after_removal: { List E → E.Key → List E };
 
     /// How many elements are held.
     fn len(&mut self) -> usize
@@ -40,13 +46,17 @@ pub trait Mapped<E: Keyed> {
         ensures put { Put E.Key.before E.keyed (map self.old) (map self.new)
             (room (slots self.old)) entry (is_ok result) }
         ensures unchanged { OnErr result (self.new ≡ self.old) }
-        ensures rest { RestKept (slots self.old) (slots self.new) };
+        ensures rest { RestKept (slots self.old) (slots self.new) }
+        ensures edited { Edited E.Key.before E.keyed order_after_put order_after_removal
+            (slots self.old) (ToPut entry ∷ []) (slots self.new) };
 
     /// Takes the element of a key out, and says whether there was one.
     fn remove(&mut self, key: E::Key) -> bool
         ensures removed { Removed E.Key.before E.keyed (map self.old) (map self.new) key result }
         ensures unchanged { OnFalse result (self.new ≡ self.old) }
-        ensures rest { RestKept (slots self.old) (slots self.new) };
+        ensures rest { RestKept (slots self.old) (slots self.new) }
+        ensures edited { Edited E.Key.before E.keyed order_after_put order_after_removal
+            (slots self.old) (ToRemove key ∷ []) (slots self.new) };
 
     // The map of every table is in the order of its keys.
     ghost rises: { (x : Self) → IsTrue (ascending E.Key.before E.keyed (map x)) };

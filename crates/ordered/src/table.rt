@@ -1,6 +1,7 @@
 // What an ordered table can be asked, and how it changes.
 ghost use Rattle.std.specs.Prelude.{◌≡◌, [], length, Some, codes, slice_get};
 ghost use Rattle.ordered.specs.Tables.{items, room};
+ghost use Rattle.maps.specs.Maps.{with_element, without_element};
 ghost use Rattle.ordered.specs.Fits.{items_fit};
 
 use crate::keys::{KeyOrder, Keyed};
@@ -49,6 +50,10 @@ impl<E: Keyed> Mapped<E> for Ordered<'_, E> {
     ghost map = { λ t. items t.elements };
 
     ghost slots = { λ t. t.elements };
+
+    ghost order_after_put = { with_element E.Key.before E.keyed };
+
+    ghost order_after_removal = { without_element E.Key.before E.keyed };
 
     ghost rises = { λ t. t.rising };
 

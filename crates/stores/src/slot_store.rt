@@ -88,14 +88,29 @@ impl<T: Mapped<Record>> Timetable for SlotStore<T> {
     }
 }
 
-// Beyond what every store promises, the slots past the last schedule keep what they had.
+// Beyond what every store promises, the slots past the last schedule keep what they had. By puts and removals the slots become
+// what these make of them one after another.
 impl<T: Mapped<Record>> Store for SlotStore<T> {
-    ghost use Rattle.std.specs.Prelude.{is_ok, OnErr};
+    ghost use Rattle.std.specs.Prelude.{[], ◌∷◌, is_ok, OnErr};
     ghost use Rattle.std.specs.Bool.{OnFalse};
     ghost use Rattle.ordered.specs.Tables.{RestKept};
     ghost use Rattle.schedule.specs.Schedules.{record_of};
     ghost use Rattle.timetable.specs.Timetables.{IsWithinCapacity, PutsSchedule, RemovesKey};
-    ghost use Rattle.stores.specs.Stores.{table_of, meaning_of};
+    ghost use Rattle.stores.specs.Stores.{table_of, meaning_of, SlotsEdited};
+    ghost use Rattle.ordered.specs.Edits.{Put as ToPut, Remove as ToRemove};
+    ghost use Rattle.ordered.specs.Chains.{edited_none, edited_more};
+    ghost use Rattle.schedule.specs.Keys.{key_before};
+    ghost use Rattle.schedule.specs.Records.{key_of};
+
+    ghost becomes = { SlotsEdited T.Mapped.order_after_put T.Mapped.order_after_removal T.Mapped.slots };
+
+    ghost becomes_itself = { λ s.
+        edited_none key_before key_of T.Mapped.order_after_put T.Mapped.order_after_removal
+        (T.Mapped.slots s.table) };
+
+    ghost becomes_on = { λ s t u.
+        edited_more key_before key_of T.Mapped.order_after_put T.Mapped.order_after_removal
+        (T.Mapped.slots s.table) (T.Mapped.slots t.table) (T.Mapped.slots u.table) };
 
     fn capacity(&mut self) -> usize {
         self.table.room()
@@ -109,6 +124,8 @@ impl<T: Mapped<Record>> Store for SlotStore<T> {
         ensures within { IsWithinCapacity (meaning_of T.Mapped.map T.Mapped.slots self.new) }
         ensures rest { RestKept (T.Mapped.slots (table_of self.old))
             (T.Mapped.slots (table_of self.new)) }
+        ensures edited { SlotsEdited T.Mapped.order_after_put T.Mapped.order_after_removal
+            T.Mapped.slots self.old (ToPut (record_of schedule) ∷ []) self.new }
     {
         self.table.put(schedule.into())
     }
@@ -120,6 +137,8 @@ impl<T: Mapped<Record>> Store for SlotStore<T> {
         ensures within { IsWithinCapacity (meaning_of T.Mapped.map T.Mapped.slots self.new) }
         ensures rest { RestKept (T.Mapped.slots (table_of self.old))
             (T.Mapped.slots (table_of self.new)) }
+        ensures edited { SlotsEdited T.Mapped.order_after_put T.Mapped.order_after_removal
+            T.Mapped.slots self.old (ToRemove key ∷ []) self.new }
     {
         self.table.remove(key)
     }

@@ -2,6 +2,7 @@
 use Rattle.std.specs.Prelude.{◌≡◌, ℕ, ◌≤◌, Bool, true, List, length, Option, ◌==◌}
 use Rattle.maps.specs.Maps.{ascending, lookup, with_element, without_element, ceiling}
 use Rattle.ordered.specs.Tables.{Put, Removed}
+use Rattle.ordered.specs.Edits.{Edit}
 use Rattle.schedule.specs.declared.key.Key.{Key}
 use Rattle.schedule.specs.declared.record.Record.{Record}
 use Rattle.schedule.specs.Keys.{key_before}
@@ -50,3 +51,7 @@ pub record PutsSchedule (before after : Meaning) (schedule : Record) (done : Boo
 pub record RemovesKey (before after : Meaning) (key : Key) (done : Bool) : Type 0 where
   pub map : Removed key_before key_of before.map after.map key done
   pub capacity : after.capacity ≡ before.capacity
+
+-- what is done to a store: a schedule is put, or a key removed
+abbrev pub StoreEdit : Type 0
+StoreEdit = Edit Record Key

@@ -1,11 +1,12 @@
 //! Timetables and stores: what they mean, and what may be asked of them. Whoever brings a store has only to meet these traits.
 #![tactic(auto)]
 
-ghost use Rattle.std.specs.Prelude.{◌≡◌, ◌≤◌, Bool, true, false, length, is_some, is_ok, OnErr};
+ghost use Rattle.std.specs.Prelude.{◌≡◌, ◌≤◌, Bool, true, false, List, [], ◌∷◌, ◌++◌, length, is_some, is_ok, OnErr};
 ghost use Rattle.std.specs.Bool.{OnFalse};
 ghost use Rattle.std.specs.Option.{unwrap_or};
+ghost use Rattle.ordered.specs.Edits.{Put as ToPut, Remove as ToRemove};
 ghost use Rattle.schedule.specs.Schedules.{record_of};
-ghost use Rattle.timetable.specs.Timetables.{Meaning, schedule_of, not_before, IsMap, IsWithinCapacity, PutsSchedule, RemovesKey};
+ghost use Rattle.timetable.specs.Timetables.{Meaning, StoreEdit, schedule_of, not_before, IsMap, IsWithinCapacity, PutsSchedule, RemovesKey};
 
 pub mod laws;
 
@@ -42,7 +43,13 @@ pub trait Timetable {
 }
 
 /// A timetable that can also be changed. Its capacity never changes, and its count never passes it.
+///
+/// Whoever brings a store may name, by `becomes`, what puts and removals make of it beside its meaning, as of the places where its
+/// schedules lie. One with nothing to say of that names the relation that always holds, `λ _ _ _. ⊤`.
 pub trait Store: Timetable {
+    // a store becomes another by puts and removals that are done in order
+    ghost becomes: { Self → List StoreEdit → Self → Type 0 };
+
     /// How many keys the map can have.
     fn capacity(&mut self) -> usize
         ensures value { result ≡ (Self.meaning self.old).capacity }
@@ -56,11 +63,20 @@ pub trait Store: Timetable {
             (record_of schedule)
             (is_ok result) }
         ensures unchanged { OnErr result (self.new ≡ self.old) }
-        ensures within { IsWithinCapacity (Self.meaning self.new) };
+        ensures within { IsWithinCapacity (Self.meaning self.new) }
+        ensures becomes { becomes self.old (ToPut (record_of schedule) ∷ []) self.new };
 
     /// Takes a key out, and says whether it was there.
     fn remove(&mut self, key: Key) -> bool
         ensures removes { RemovesKey (Self.meaning self.old) (Self.meaning self.new) key result }
         ensures unchanged { OnFalse result (self.new ≡ self.old) }
-        ensures within { IsWithinCapacity (Self.meaning self.new) };
+        ensures within { IsWithinCapacity (Self.meaning self.new) }
+        ensures becomes { becomes self.old (ToRemove key ∷ []) self.new };
+
+    // by none it stays the store that it was
+    ghost becomes_itself: { (x : Self) → becomes x [] x };
+
+    // and by some that are done after others it becomes what it becomes by all of them
+    ghost becomes_on: { (x y z : Self) (first then : List StoreEdit)
+        → becomes x first y → becomes y then z → becomes x (first ++ then) z };
 }

@@ -1,7 +1,8 @@
-use Rattle.std.proofs.Common.{length, nat_lt, set, ap, ◌∙◌}
+use Rattle.std.proofs.Common.{true, is_ok, length, nat_lt, set, ap, ◌∙◌, subst}
 use Rattle.std.specs.List.{insert}
 use Rattle.std.proofs.lemmas.Result.{on_ok_weaker, on_err_weaker}
-use Rattle.ordered.specs.Tables.{items, room}
+use Rattle.ordered.specs.Tables.{items, room, RestKept}
+use Rattle.ordered.proofs.Edited.{put_edited}
 use Rattle.ordered.proofs.Changes.{put_hit, hit_rises, put_miss, miss_rises}
 use Rattle.ordered.proofs.Laws.{lawful}
 use Rattle.ordered.proofs.Whole.{same_ordered}
@@ -35,3 +36,13 @@ returns-in-Err-clause-put g c =
 
 pub returns-in-Err-clause-unchanged : goal.returns-in-Err-clause-unchanged
 returns-in-Err-clause-unchanged g c = on_err_weaker c.insert.result (λ e. same_ordered _ _ (e ∙ c.in-Err.ensures.same)) c.insert.ensures.unchanged
+
+pub returns-in-Ok-clause-edited : goal.returns-in-Ok-clause-edited
+returns-in-Ok-clause-edited g c =
+    let put = returns-in-Ok-clause-put g c in
+    put_edited _ _ _ _ _ _ (subst (λ s. RestKept s c.set.new.self) c.in-Ok.ensures.same c.set.ensures.rest) c.args.entry true put.done put.gives
+
+pub returns-in-Err-clause-edited : goal.returns-in-Err-clause-edited
+returns-in-Err-clause-edited g c =
+    let put = returns-in-Err-clause-put g c in
+    put_edited _ _ _ _ _ _ (subst (λ s. RestKept s c.insert.new.self) c.in-Err.ensures.same c.insert.ensures.rest) c.args.entry (is_ok c.insert.result) put.done put.gives
