@@ -29,7 +29,7 @@ use Rattle.controller.specs.declared.answer.Answer.TheVariants.{Done, Refused}
 use Rattle.controller.specs.Calls.{Call, refusal_of}
 use Rattle.controller.specs.Agreeing.{Agrees}
 use Rattle.controller.specs.Ledger.{Ledger, with_confirmed, with_shown, ledger_with, confirmed_map, standing_of, LinesOf, Accepts, AnswerOf, answer_of, has_train}
-use Rattle.controller.specs.Keeping.{State, KeepsTo, is_confirm, Obeyed, Obeys}
+use Rattle.controller.specs.Keeping.{State, KeepsTo, DoesAllPending, is_confirm, Obeyed, Obeys}
 use Rattle.controller.proofs.Called.{idle_agrees}
 
 -- what keeps to a ledger is judged by what the ledger gives
@@ -136,6 +136,16 @@ unnamed_stay m cs None xs ys is lawful p q = ap (lines_without (has_train cs)) (
 unnamed_stay m cs (Some s) xs ys is lawful p q =
     lines_stay m (done_all m cs) s.station s.day (has_train cs) xs ys (λ k h. sym (unnamed_keep m cs k is lawful (not_named cs k.uid h))) p q
 
+-- what is pending is of the rows, and all of it finds room
+pending_of_rows : (before : State) (ℓ : Ledger) → KeepsTo before ℓ → before.standing.extract.changes ≡ transactions_of ℓ.rows
+pending_of_rows before ℓ k = ap (λ (p : Progress). p.changes) k.extract.progress
+
+pending_done : (before : State) (store : Meaning) (ℓ : Ledger) → KeepsTo before ℓ → store ≡ after_tries before.standing.store before.standing.extract.changes → store ≡ with_done before.standing.store before.standing.extract.changes
+pending_done before store ℓ k tried = tried ∙ all_tried before.standing.store before.standing.extract.changes k.extract.pending
+
+pub does_all : (before : State) (store : Meaning) → store ≡ after_tries before.standing.store before.standing.extract.changes → DoesAllPending before store
+does_all before store tried ℓ k = pending_done before store ℓ k tried ∙ ap (with_done before.standing.store) (pending_of_rows before ℓ k)
+
 -- an extract is confirmed
 module _ (before after : State) (ℓ : Ledger) (k : KeepsTo before ℓ)
     (store : after.standing.store ≡ after_tries before.standing.store before.standing.extract.changes)
@@ -152,11 +162,10 @@ module _ (before after : State) (ℓ : Ledger) (k : KeepsTo before ℓ)
     lawful = each_lawful before.standing.store cs k.extract.pending
 
     of_rows : cs ≡ transactions_of ℓ.rows
-    of_rows = ap (λ (p : Progress). p.changes) k.extract.progress
+    of_rows = pending_of_rows before ℓ k
 
-    -- all of it finds room
     done : after.standing.store ≡ with_done before.standing.store cs
-    done = store ∙ all_tried before.standing.store cs k.extract.pending
+    done = pending_done before after.standing.store ℓ k store
 
     done_map : after.standing.store.map ≡ done_all before.standing.store.map cs
     done_map = ap (λ (t : Meaning). t.map) done

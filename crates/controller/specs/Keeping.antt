@@ -1,6 +1,7 @@
 -- A controller and its board keep to the ledger of the calls.
 use Rattle.std.specs.Prelude.{◌≡◌, ℕ, Bool, true, false, List, Option}
 use Rattle.timetable.specs.Timetables.{Meaning}
+use Rattle.overlay.specs.Overlays.{with_done}
 use Rattle.overlay.specs.Permitted.{EachMayBeDone}
 use Rattle.extract.specs.Progress.{transactions_of}
 use Rattle.extract.specs.Judging.{Standing}
@@ -43,6 +44,11 @@ pub record KeepsTo (s : State) (ℓ : Ledger) : Type 0 where
   pub lines : LinesOf ℓ s.lines
   -- each confirmed transaction, done in order to the start, is one that may be done
   pub confirmed : EachMayBeDone (record s.standing.store { map = ℓ.start }) ℓ.confirmed
+
+-- all that is pending is done: where a ledger was kept to, the store means what it meant with each transaction of the ledger's rows
+-- done in order, none passed over
+abbrev pub DoesAllPending : State → Meaning → Type 0
+DoesAllPending before store = (ℓ : Ledger) → KeepsTo before ℓ → store ≡ with_done before.standing.store (transactions_of ℓ.rows)
 
 -- whether a call is a confirm
 abbrev pub is_confirm : Call → Bool

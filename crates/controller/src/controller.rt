@@ -34,10 +34,10 @@ impl<S: Store> Controller<S> {
     ghost use Rattle.extract.specs.Progress.{idle, after_row};
     ghost use Rattle.controller.specs.Calls.{Open as ToOpen, Row as ToHear, Abandon as ToAbandon, refusal_of, bytes_verdict, Confirm as ToConfirm, confirm_lines, Turn as ToTurn};
     ghost use Rattle.controller.specs.Ledger.{new_ledger, answer_of};
-    ghost use Rattle.controller.specs.Keeping.{state_in, KeepsTo, Obeys};
+    ghost use Rattle.controller.specs.Keeping.{state_in, KeepsTo, DoesAllPending, Obeys};
     ghost use Rattle.controller.specs.Shown.{store_of, reference_of, count_of, progress_in, standing_in, SameButExtract};
     ghost use Rattle.extract.specs.Judging.{is_misplaced, is_no_opening, GoesBy};
-    ghost use Rattle.overlay.specs.Settling.{after_tries};
+    ghost use Rattle.overlay.specs.Settling.{after_tries, edits_of};
     ghost use Rattle.board.specs.Lines.{LinesFor, BoardOf};
 
     /// A controller over a store: idle, nothing pending, seven blanks for the reference in force, and a tally of 0.
@@ -156,6 +156,12 @@ impl<S: Store> Controller<S> {
             ≡ refusal_of ToConfirm (standing_in S.meaning self.old) (slots_of board.old) }
         ensures store { OnOk result (S.meaning (store_of self.new)
             ≡ after_tries (S.meaning (store_of self.old)) (progress_in self.old).changes) }
+        ensures all_done { OnOk result
+            (DoesAllPending (state_in S.meaning self.old board.old)
+            (S.meaning (store_of self.new))) }
+        ensures becomes { OnOk result
+            (S.Store.becomes (store_of self.old) (edits_of (progress_in self.old).changes)
+            (store_of self.new)) }
         ensures lines { OnOk result
             (LinesFor (S.meaning (store_of self.new)).map (shown_of board.old)
             (lines_of board.new)) }

@@ -1,9 +1,10 @@
 -- Transactions that are tried on a store, which may find no room.
-use Rattle.std.specs.Prelude.{◌≡◌, cond, ◌||◌, List, length, fold, nat_lt}
+use Rattle.std.specs.Prelude.{◌≡◌, cond, ◌||◌, List, map, length, fold, nat_lt}
+use Rattle.ordered.specs.Edits.{Put, Remove}
 use Rattle.schedule.specs.declared.record.Record.{Record}
 use Rattle.schedule.specs.declared.transaction.Change.{Change}
 use Rattle.schedule.specs.declared.transaction.Change.TheVariants.{New, Revise, Delete}
-use Rattle.timetable.specs.Timetables.{Meaning, with_schedule, without_key}
+use Rattle.timetable.specs.Timetables.{Meaning, StoreEdit, with_schedule, without_key}
 use Rattle.timetable.specs.Laws.{has_key}
 use Rattle.overlay.specs.Overlays.{with_done}
 use Rattle.overlay.specs.Permitted.{EachMayBeDone}
@@ -25,3 +26,13 @@ after_tries t cs = fold after_try t cs
 -- where each of the transactions may be done, all of them are
 abbrev pub RoomForAll : Type 0
 RoomForAll = (t : Meaning) (cs : List Change) → EachMayBeDone t cs → after_tries t cs ≡ with_done t cs
+
+-- the put or the removal by which a transaction is done to a store
+abbrev pub edit_of : Change → StoreEdit
+edit_of (New r) = Put r
+edit_of (Revise r) = Put r
+edit_of (Delete k) = Remove k
+
+-- and those by which transactions are done to it, in order
+abbrev pub edits_of : List Change → List StoreEdit
+edits_of cs = map edit_of cs

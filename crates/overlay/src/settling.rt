@@ -1,9 +1,9 @@
 //! What is pending, done to the store.
-ghost use Rattle.std.specs.Prelude.{◌≡◌, true, [], length};
+ghost use Rattle.std.specs.Prelude.{◌≡◌, true, [], ◌∷◌, length};
 ghost use Rattle.schedule.specs.Transactions.{is_lawful};
 ghost use Rattle.timetable.specs.Timetables.{IsWithinCapacity};
 ghost use Rattle.overlay.specs.Overlays.{pending_in};
-ghost use Rattle.overlay.specs.Settling.{after_try, after_tries};
+ghost use Rattle.overlay.specs.Settling.{after_try, after_tries, edit_of, edits_of};
 
 use crate::overlay::Overlay;
 use crate::pending::Changes;
@@ -16,6 +16,7 @@ fn settle_one<S: Store>(store: &mut S, change: &Change)
     requires lawful { is_lawful change.now ≡ true }
     ensures meaning { S.meaning store.new ≡ after_try (S.meaning store.old) change.now }
     ensures within { IsWithinCapacity (S.meaning store.new) }
+    ensures becomes { S.Store.becomes store.old (edit_of change.now ∷ []) store.new }
 {
     match schedule_left(change) {
         Some(schedule) => {
@@ -32,6 +33,7 @@ fn settle_all<S: Store>(store: &mut S, changes: &Changes<'_>)
     ensures meaning { S.meaning store.new ≡ after_tries (S.meaning store.old) changes.now.list.now }
     ensures within { IsWithinCapacity (S.meaning store.old)
         → IsWithinCapacity (S.meaning store.new) }
+    ensures becomes { S.Store.becomes store.old (edits_of changes.now.list.now) store.new }
 {
     for change in changes.list {
         settle_one(store, change);
@@ -45,6 +47,8 @@ impl<S: Store> Overlay<S> {
             ≡ after_tries (S.meaning self.old.store) (pending_in self.old.pending) }
         ensures within { IsWithinCapacity (S.meaning self.old.store)
             → IsWithinCapacity (S.meaning self.new.store) }
+        ensures becomes { S.Store.becomes self.old.store (edits_of (pending_in self.old.pending))
+            self.new.store }
         ensures pending { pending_in self.new.pending ≡ [] }
     {
         settle_all(&mut self.store, &self.pending.all());

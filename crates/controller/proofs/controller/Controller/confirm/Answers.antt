@@ -14,7 +14,7 @@ use Rattle.controller.specs.Calls.{Confirm, refusal_of}
 use Rattle.controller.specs.Shown.{store_of}
 use Rattle.controller.specs.Keeping.{State, state, state_in}
 use Rattle.controller.proofs.Called.{at_ok}
-use Rattle.controller.proofs.Kept.{obeys_done, keeps_confirmed, keeps_unnamed}
+use Rattle.controller.proofs.Kept.{does_all, obeys_done, keeps_confirmed, keeps_unnamed}
 use Rattle.controller.proofs.controller.Controller.confirm.Goals as goal
 
 pub follow-requires : goal.follow-requires
@@ -34,6 +34,9 @@ follow-requires g c =
 
 pub returns-clause-lines : goal.returns-clause-lines
 returns-clause-lines g c = search rules
+
+pub returns-clause-all_done : goal.returns-clause-all_done
+returns-clause-all_done g c = does_all (state_in g.S.Timetable.meaning c.args.self.now c.args.board.now) (g.S.Timetable.meaning c.follow.new.timetable) (search rules)
 
 pub returns-clause-obeys : goal.returns-clause-obeys
 returns-clause-obeys g c =
