@@ -17,6 +17,7 @@ impl<E: Keyed> Loose<'_, E> {
     pub fn new<'b>(slots: &'b mut [E]) -> Loose<'b, E>
         ensures empty { items result.elements ≡ [] }
         ensures room { room result.elements ≡ length slots.old }
+        ensures kept { result.elements.slots.now ≡ slots.old }
     {
         Loose {
             elements: Slots::new(slots),

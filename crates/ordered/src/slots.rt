@@ -19,6 +19,7 @@ impl<E> Slots<'_, E> {
     pub fn new<'b>(slots: &'b mut [E]) -> Slots<'b, E>
         ensures empty { items result ≡ [] }
         ensures room { room result ≡ length slots.old }
+        ensures kept { result.slots.now ≡ slots.old }
     {
         Slots { slots, len: 0 }
     }

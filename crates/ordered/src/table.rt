@@ -30,6 +30,7 @@ impl<E: Keyed> Ordered<'_, E> {
     pub fn new<'b>(slots: &'b mut [E]) -> Ordered<'b, E>
         ensures empty { items result.elements ≡ [] }
         ensures room { room result.elements ≡ length slots.old }
+        ensures kept { result.elements.slots.now ≡ slots.old }
     {
         Ordered {
             elements: Slots::new(slots),

@@ -25,7 +25,7 @@ pub struct SlotStore<T: Mapped<Record>> {
 }
 
 impl SlotStore<Ordered<'_, Record>> {
-    ghost use Rattle.std.specs.Prelude.{min, [], length};
+    ghost use Rattle.std.specs.Prelude.{min, [], length, take};
     ghost use Rattle.ordered.specs.Tables.{items};
     ghost use Rattle.stores.specs.Stores.{table_of};
 
@@ -33,6 +33,7 @@ impl SlotStore<Ordered<'_, Record>> {
     pub fn new<'b>(slots: &'b mut [Record]) -> Table<'b>
         ensures empty { items (table_of result).elements ≡ [] }
         ensures capacity { room (table_of result).elements ≡ min (length slots.old) 65535 }
+        ensures kept { (table_of result).elements.slots.now ≡ take 65535 slots.old }
     {
         let most = slots.len().min(MOST);
         SlotStore {
@@ -42,7 +43,7 @@ impl SlotStore<Ordered<'_, Record>> {
 }
 
 impl SlotStore<Loose<'_, Record>> {
-    ghost use Rattle.std.specs.Prelude.{min, [], length};
+    ghost use Rattle.std.specs.Prelude.{min, [], length, take};
     ghost use Rattle.ordered.specs.Tables.{items};
     ghost use Rattle.stores.specs.Stores.{table_of};
 
@@ -50,6 +51,7 @@ impl SlotStore<Loose<'_, Record>> {
     pub fn new<'b>(slots: &'b mut [Record]) -> Bag<'b>
         ensures empty { items (table_of result).elements ≡ [] }
         ensures capacity { room (table_of result).elements ≡ min (length slots.old) 65535 }
+        ensures kept { (table_of result).elements.slots.now ≡ take 65535 slots.old }
     {
         let most = slots.len().min(MOST);
         SlotStore {

@@ -1,10 +1,11 @@
 -- What putting, removing and asking come to, key by key.
-use Rattle.std.specs.Prelude.{◌≡◌, Bool, true, false, cond, List, is_some, Some, None, fold, Option, MatchOption, ◌≢◌}
+use Rattle.std.specs.Prelude.{◌≡◌, Bool, true, false, cond, List, [], ◌∷◌, flat_map, is_some, Some, None, fold, Option, MatchOption, ◌≢◌}
+use Rattle.ordered.specs.Edits.{Put}
 use Rattle.schedule.specs.declared.key.Key.{Key}
 use Rattle.schedule.specs.declared.record.Record.{Record}
 use Rattle.schedule.specs.Keys.{key_before}
 use Rattle.schedule.specs.Records.{key_of, is_schedule}
-use Rattle.timetable.specs.Timetables.{schedule_of, with_schedule, without_key, not_before, IsMap}
+use Rattle.timetable.specs.Timetables.{StoreEdit, schedule_of, with_schedule, without_key, not_before, IsMap}
 
 -- maps with the same schedule under every key are the same map
 abbrev pub LookupsDecide : Type 0
@@ -46,3 +47,11 @@ set_if_schedule m r = cond (is_schedule r) (with_schedule m r) m
 -- those of a list of records that are schedules, set one after another
 abbrev pub set_all : List Record → List Record → List Record
 set_all m rs = fold set_if_schedule m rs
+
+-- the put of a record's schedule, if it is one
+abbrev pub put_if_schedule : Record → List StoreEdit
+put_if_schedule r = cond (is_schedule r) (Put r ∷ []) []
+
+-- the puts of those of a list of records that are schedules
+abbrev pub puts_of : List Record → List StoreEdit
+puts_of rs = flat_map put_if_schedule rs
