@@ -5,7 +5,7 @@ use Rattle.std.proofs.lemmas.List.{take-append-drop, length-take-le, length-drop
 use Rattle.maps.specs.Maps.{lookup}
 use Rattle.ordered.specs.declared.slots.Slots.{Slots}
 use Rattle.ordered.specs.Tables.{items, room, RestKept}
-use Rattle.ordered.specs.Edits.{Put, Remove, contents_of, now_holding, has_place, after_edit, Edited}
+use Rattle.ordered.specs.Edits.{ToPut, ToRemove, contents_of, now_holding, has_place, after_edit, Edited}
 
 long : {E : Type 0} (s : Slots E) → length (items s) ≡ s.len
 long s = length-take-le s.len s.slots.now s.fits
@@ -31,18 +31,18 @@ free s =
     ]
 
 module _ {E K : Type 0} (before : K → K → Bool) (key : E → K) (put : List E → E → List E) (removal : List E → K → List E) (s t : Slots E) (rest : RestKept s t) where
-  pub put_edited : (x : E) (r : Bool) → r ≡ (is_some (lookup before key (items s) (key x)) || nat_lt (length (items s)) (room s)) → items t ≡ cond r (put (items s) x) (items s) → Edited before key put removal s (Put x ∷ []) t
+  pub put_edited : (x : E) (r : Bool) → r ≡ (is_some (lookup before key (items s) (key x)) || nat_lt (length (items s)) (room s)) → items t ≡ cond r (put (items s) x) (items s) → Edited before key put removal s (ToPut x ∷ []) t
   put_edited x r done gives = record { lender = rest.lender; contents = either r done gives }
     where
       placed : (b : Bool) → b ≡ (is_some (lookup before key (items s) (key x)) || nat_lt (length (items s)) (room s)) → has_place before key put removal (contents_of s) x ≡ b
       placed b d = ap (λ n. is_some (lookup before key (items s) (key x)) || n) (free s) ∙ sym d
 
-      either : (b : Bool) → b ≡ (is_some (lookup before key (items s) (key x)) || nat_lt (length (items s)) (room s)) → items t ≡ cond b (put (items s) x) (items s) → contents_of t ≡ after_edit before key put removal (contents_of s) (Put x)
+      either : (b : Bool) → b ≡ (is_some (lookup before key (items s) (key x)) || nat_lt (length (items s)) (room s)) → items t ≡ cond b (put (items s) x) (items s) → contents_of t ≡ after_edit before key put removal (contents_of s) (ToPut x)
       either true d g = holds s t (put (items s) x) g rest ∙ ap (λ b. cond b (now_holding (contents_of s) (put (items s) x)) (contents_of s)) (sym (placed true d))
       either false d g =
           holds s t (items s) g rest
           ∙ sym (holds s s (items s) refl (kept_itself s))
           ∙ ap (λ b. cond b (now_holding (contents_of s) (put (items s) x)) (contents_of s)) (sym (placed false d))
 
-  pub removal_edited : (k : K) → items t ≡ removal (items s) k → Edited before key put removal s (Remove k ∷ []) t
+  pub removal_edited : (k : K) → items t ≡ removal (items s) k → Edited before key put removal s (ToRemove k ∷ []) t
   removal_edited k gives = record { lender = rest.lender; contents = holds s t (removal (items s) k) gives rest }

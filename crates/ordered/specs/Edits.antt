@@ -4,10 +4,10 @@ use Rattle.maps.specs.Maps.{lookup}
 use Rattle.ordered.specs.declared.slots.Slots.{Slots}
 use Rattle.ordered.specs.Tables.{items}
 
--- an element is put, or the element of a key is removed
+-- what is done to a table: to put an element, or to remove the one of a key
 pub data Edit (E K : Type 0) : Type 0 where
-  Put : E → Edit E K
-  Remove : K → Edit E K
+  ToPut : E → Edit E K
+  ToRemove : K → Edit E K
 
 -- what lies in slots: the elements that are held, in the order of their slots, and what the slots past them have
 pub record Contents (E : Type 0) : Type 0 where
@@ -30,8 +30,8 @@ module _ {E K : Type 0} (before : K → K → Bool) (key : E → K) (put : List 
 
   -- the contents after a put, which changes nothing where there is no place, or after a removal
   abbrev pub after_edit : Contents E → Edit E K → Contents E
-  after_edit c (Put x) = if has_place c x then now_holding c (put c.held x) else c
-  after_edit c (Remove k) = now_holding c (removal c.held k)
+  after_edit c (ToPut x) = if has_place c x then now_holding c (put c.held x) else c
+  after_edit c (ToRemove k) = now_holding c (removal c.held k)
 
   -- slots become others by puts and removals in order: they are the same lender's, and have what these make of what they had
   pub record Edited (s : Slots E) (edits : List (Edit E K)) (t : Slots E) : Type 0 where

@@ -4,7 +4,7 @@ ghost use Rattle.std.specs.Bool.{OnFalse};
 ghost use Rattle.maps.specs.Maps.{ascending, lookup, ceiling};
 ghost use Rattle.ordered.specs.declared.slots.Slots.{Slots};
 ghost use Rattle.ordered.specs.Tables.{room, Put, Removed, RestKept};
-ghost use Rattle.ordered.specs.Edits.{Edited, Put as ToPut, Remove as ToRemove};
+ghost use Rattle.ordered.specs.Edits.{Edited, ToPut, ToRemove};
 
 use crate::keys::{KeyOrder, Keyed};
 use crate::table::Full;

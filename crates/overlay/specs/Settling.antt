@@ -1,6 +1,6 @@
 -- Transactions that are tried on a store, which may find no room.
 use Rattle.std.specs.Prelude.{◌≡◌, cond, ◌||◌, List, map, length, fold, nat_lt}
-use Rattle.ordered.specs.Edits.{Put, Remove}
+use Rattle.ordered.specs.Edits.{ToPut, ToRemove}
 use Rattle.schedule.specs.declared.record.Record.{Record}
 use Rattle.schedule.specs.declared.transaction.Change.{Change}
 use Rattle.schedule.specs.declared.transaction.Change.TheVariants.{New, Revise, Delete}
@@ -29,9 +29,9 @@ RoomForAll = (t : Meaning) (cs : List Change) → EachMayBeDone t cs → after_t
 
 -- the put or the removal by which a transaction is done to a store
 abbrev pub edit_of : Change → StoreEdit
-edit_of (New r) = Put r
-edit_of (Revise r) = Put r
-edit_of (Delete k) = Remove k
+edit_of (New r) = ToPut r
+edit_of (Revise r) = ToPut r
+edit_of (Delete k) = ToRemove k
 
 -- and those by which transactions are done to it, in order
 abbrev pub edits_of : List Change → List StoreEdit

@@ -99,7 +99,7 @@ impl<T: Mapped<Record>> Store for SlotStore<T> {
     ghost use Rattle.schedule.specs.Schedules.{record_of};
     ghost use Rattle.timetable.specs.Timetables.{IsWithinCapacity, PutsSchedule, RemovesKey};
     ghost use Rattle.stores.specs.Stores.{table_of, meaning_of, SlotsEdited};
-    ghost use Rattle.ordered.specs.Edits.{Put as ToPut, Remove as ToRemove};
+    ghost use Rattle.ordered.specs.Edits.{ToPut, ToRemove};
     ghost use Rattle.ordered.specs.Chains.{edited_none, edited_more};
     ghost use Rattle.schedule.specs.Keys.{key_before};
     ghost use Rattle.schedule.specs.Records.{key_of};

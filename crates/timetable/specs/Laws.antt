@@ -1,6 +1,6 @@
 -- What putting, removing and asking come to, key by key.
 use Rattle.std.specs.Prelude.{◌≡◌, Bool, true, false, cond, List, [], ◌∷◌, flat_map, is_some, Some, None, fold, Option, MatchOption, ◌≢◌}
-use Rattle.ordered.specs.Edits.{Put}
+use Rattle.ordered.specs.Edits.{ToPut}
 use Rattle.schedule.specs.declared.key.Key.{Key}
 use Rattle.schedule.specs.declared.record.Record.{Record}
 use Rattle.schedule.specs.Keys.{key_before}
@@ -50,7 +50,7 @@ set_all m rs = fold set_if_schedule m rs
 
 -- the put of a record's schedule, if it is one
 abbrev pub put_if_schedule : Record → List StoreEdit
-put_if_schedule r = cond (is_schedule r) (Put r ∷ []) []
+put_if_schedule r = cond (is_schedule r) (ToPut r ∷ []) []
 
 -- the puts of those of a list of records that are schedules
 abbrev pub puts_of : List Record → List StoreEdit

@@ -4,7 +4,7 @@
 ghost use Rattle.std.specs.Prelude.{◌≡◌, ◌≤◌, Bool, true, false, List, [], ◌∷◌, ◌++◌, length, is_some, is_ok, OnErr};
 ghost use Rattle.std.specs.Bool.{OnFalse};
 ghost use Rattle.std.specs.Option.{unwrap_or};
-ghost use Rattle.ordered.specs.Edits.{Put as ToPut, Remove as ToRemove};
+ghost use Rattle.ordered.specs.Edits.{ToPut, ToRemove};
 ghost use Rattle.schedule.specs.Schedules.{record_of};
 ghost use Rattle.timetable.specs.Timetables.{Meaning, StoreEdit, schedule_of, not_before, IsMap, IsWithinCapacity, PutsSchedule, RemovesKey};
 
