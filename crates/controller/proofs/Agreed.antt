@@ -24,7 +24,7 @@ use Rattle.controller.proofs.Heard.{heard_after}
 use Rattle.controller.proofs.Fitting.{is_sound, MayGoOn, may_after}
 
 -- what a row of an identity can hold
-abbrev Sound : Identity → Content → Type 0
+abbrev pub Sound : Identity → Content → Type 0
 Sound i c = (identity_for c ≡ i) × (is_sound c ≡ true)
 
 named_sound : {X : Type 0} (i : Identity) (r : Result X ColumnFault) (f : X → Content) → ((x : X) → Sound i (f x)) → (c : Content) → then r (λ x. Ok (f x)) ≡ Ok c → Sound i c
@@ -34,7 +34,7 @@ named_sound i (Err e) f each c h = err_ok _ c e refl h
 unread_sound : (i : Identity) (c : Content) → Sound i (Unread i) → ◌≡◌ {A = Result Content ColumnFault} (Ok (Unread i)) (Ok c) → Sound i c
 unread_sound i c sound h = subst (λ (v : Content). Sound i v) (ok_is _ (Unread i) c refl h) sound
 
-content_sound : (i : Identity) (row : List ℕ) (c : Content) → content_in i row ≡ Ok c → Sound i c
+pub content_sound : (i : Identity) (row : List ℕ) (c : Content) → content_in i row ≡ Ok c → Sound i c
 content_sound Header row c h = named_sound Header (header_in row) OfHeader (λ x. (refl, refl)) c h
 content_sound BasicSchedule row c h = named_sound BasicSchedule (schedule_in row) OfSchedule (λ x. (refl, refl)) c h
 content_sound BasicExtra row c h = named_sound BasicExtra (operator_in row) OfOperator (λ x. (refl, refl)) c h

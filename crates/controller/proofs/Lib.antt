@@ -3,6 +3,8 @@ pub mod Whole
 pub mod Stepping
 pub mod Fitting
 pub mod Agreed
+pub mod Taking
+pub mod Building
 pub mod Called
 pub mod Lawful
 pub mod Kept

@@ -1,5 +1,6 @@
 // Laws of extracts and of the table of refusals.
 ghost use Rattle.controller.specs.Laws.{OverlayIsOfRows, PendingMayBeDone, PendingFits, UppermostIsTold, ReadFromBsToLt, CallsInRowOrder};
+ghost use Rattle.controller.specs.ScheduleRows.{ScheduleRowsMakeOne};
 
 /// The overlay's map is the store's with the transactions of the rows done in order, whatever the store.
 pub fn overlay_is_of_rows()
@@ -29,4 +30,9 @@ pub fn read_from_bs_to_lt()
 /// Kept calls stand in row order.
 pub fn calls_in_row_order()
     ensures { CallsInRowOrder }
+{}
+
+/// The rows of a schedule make one transaction.
+pub fn schedule_rows_make_one_transaction()
+    ensures { ScheduleRowsMakeOne }
 {}
