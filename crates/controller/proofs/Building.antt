@@ -1,6 +1,6 @@
 -- The rows of a schedule build the one that they come to, row by row.
 use Rattle.std.proofs.Common.{◌≡◌, ℕ, suc, ◌+◌, ◌-◌, ◌<◌, Bool, true, false, cond, not, ◌&&◌, leb, List, [], ◌∷◌, ◌++◌, length, map, filter, set, replicate, Some, None, Option, ◌⊎◌, inl, inr, fold, unwrap_or, sym, refl, ap, ap₂, ◌∙◌, subst, append-nil, append_assoc, arith}
-use Rattle.std.proofs.lemmas.Bool.{true≢false, leb-false}
+use Rattle.std.proofs.lemmas.Bool.{true≢false, leb-false, not-true, and_parts}
 use Rattle.std.proofs.lemmas.List.{set_at, length_push}
 use Rattle.std.proofs.lemmas.List.Elements.{filter-append}
 use Rattle.cif.specs.declared.content.BasicSchedule.{BasicSchedule}
@@ -9,7 +9,7 @@ use Rattle.cif.specs.declared.content.Action.TheVariants.{New as AsksNew, Revise
 use Rattle.cif.specs.declared.content.Running.{Running as Days}
 use Rattle.cif.specs.declared.content.Location.{Location}
 use Rattle.cif.specs.declared.content.Content.{Content}
-use Rattle.cif.specs.declared.content.Content.TheVariants.{Schedule, Operator, Origin, Intermediate, Terminus, Unread}
+use Rattle.cif.specs.declared.content.Content.TheVariants.{Header, Schedule, Operator, Origin, Intermediate, Terminus, Unread}
 use Rattle.cif.specs.declared.identity.Identity.TheVariants.{BasicSchedule as IsSchedule, BasicExtra as IsExtra, Origin as IsOrigin, Intermediate as IsIntermediate, Terminus as IsTerminus, ChangeEnRoute}
 use Rattle.cif.specs.declared.refusal.Refusal.TheVariants.{TooManyCalls, TooManyVisits}
 use Rattle.cif.specs.Refusals.{TableLine, line, uppermost, is_missing}
@@ -25,8 +25,8 @@ use Rattle.extract.specs.Stages.{next_stage}
 use Rattle.extract.specs.Progress.{Progress, change_by, is_deletion, is_brief, after}
 use Rattle.extract.specs.Judging.{Standing}
 use Rattle.extract.proofs.Lines.{none_first}
-use Rattle.controller.specs.ScheduleRows.{WayRow, LI, CR, way_content, way_locations, operator_contents, ScheduleRows, contents_of, locations_of, schedule_with, asked_with, transaction_in, Join, ScheduleRowsMakeOne}
-use Rattle.controller.proofs.Taking.{Admits, AdmitsAll, moved, taken_all}
+use Rattle.controller.specs.ScheduleRows.{WayRow, LI, CR, way_content, way_locations, operator_contents, ScheduleRows, contents_of, locations_of, schedule_with, asked_with, transaction_in, bare_transaction_in, begins_schedule, joins_at, Join, ScheduleRowsMakeOne, BareRowJoinsAtOnce, OtherRowsAddNone}
+use Rattle.controller.proofs.Taking.{Admits, AdmitsAll, moved, taken_admits, row_moves, taken_all}
 
 -- a call more in the first of 48 places that is free
 filled_more : (calls : List Location) (l : Location) → length calls < 48 → set (calls ++ replicate (48 - length calls) filler) (length calls) l ≡ (calls ++ l ∷ []) ++ replicate (48 - length (calls ++ l ∷ [])) filler
@@ -176,11 +176,17 @@ brings_revised : Brings Revise
 brings_revised = record { steps = λ f r. refl; lines = λ r l. refl }
 
 -- the rows of a schedule
-pub schedule_ends : (s : Standing) (r : ScheduleRows) → is_deletion r.basic.action ≡ false → is_cancellation r.basic.stp ≡ false → AdmitsAll s (contents_of r) → Join (transaction_in r ∷ []) s.extract (fold after s.extract (contents_of r))
-schedule_ends s r keeps runs a = join_from _ s.extract _ _ none (of r.basic.action refl keeps)
+pub schedule_ends : (s : Standing) (r : ScheduleRows) → begins_schedule r.basic ≡ true → AdmitsAll s (contents_of r) → Join (transaction_in r ∷ []) s.extract (fold after s.extract (contents_of r))
+schedule_ends s r begins a = join_from _ s.extract _ _ none (of r.basic.action refl keeps)
   where
     b : BasicSchedule
     b = r.basic
+
+    keeps : is_deletion b.action ≡ false
+    keeps = not-true (is_deletion b.action) (and_parts (not (is_deletion b.action)) (not (is_cancellation b.stp)) begins).0
+
+    runs : is_cancellation b.stp ≡ false
+    runs = not-true (is_cancellation b.stp) (and_parts (not (is_deletion b.action)) (not (is_cancellation b.stp)) begins).1
 
     long : is_brief b ≡ false
     long = rw keeps runs
@@ -204,6 +210,46 @@ schedule_ends s r keeps runs a = join_from _ s.extract _ _ none (of r.basic.acti
 
 -- and so where they are taken
 pub schedule_made : ScheduleRowsMakeOne
-schedule_made s rows r keeps runs read taken =
+schedule_made s rows r begins read taken =
     let t = taken_all s rows (contents_of r) read taken in
-    subst (λ (p : Progress). Join (transaction_in r ∷ []) s.extract p) (sym t.1) (schedule_ends s r keeps runs t.0)
+    subst (λ (p : Progress). Join (transaction_in r ∷ []) s.extract p) (sym t.1) (schedule_ends s r begins t.0)
+
+-- a BS that begins no schedule is brief
+is_bare : (deletes cancels : Bool) → (not deletes && not cancels) ≡ false → cond deletes true cancels ≡ true
+is_bare true cancels h = refl
+is_bare false true h = refl
+is_bare false false h = absurd (true≢false h)
+
+pub bare_joins : (s : Standing) (b : BasicSchedule) → begins_schedule b ≡ false → Admits s (Schedule b) → Join (bare_transaction_in b ∷ []) s.extract (after s.extract (Schedule b))
+bare_joins s b bare a =
+    let brief = is_bare (is_deletion b.action) (is_cancellation b.stp) bare in
+    record {
+      changes = ap (λ x. s.extract.changes ++ cond x (change_by b b.action ∷ []) []) brief ∙ ap (λ c. s.extract.changes ++ c ∷ []) (of b.action);
+      stage = ap₂ (λ st x. unwrap_or (next_stage st IsSchedule x) st) (only_between s.extract.stage a.place) brief;
+    }
+  where
+    of : (c : Action) → change_by b c ≡ asked_with b c two_blanks seven_blanks []
+    of (AsksNew d) = refl
+    of (AsksRevise d) = refl
+    of AsksDelete = refl
+
+pub bare_made : BareRowJoinsAtOnce
+bare_made s row b bare read taken =
+    subst (λ (p : Progress). Join (bare_transaction_in b ∷ []) s.extract p) (sym (row_moves s.extract row (Schedule b) read)) (bare_joins s b bare (taken_admits s row (Schedule b) read taken))
+
+pub none_joins : (p : Progress) (c : Content) → joins_at c ≡ false → (after p c).changes ≡ p.changes
+none_joins p (Header h) j = append-nil p.changes
+none_joins p (Schedule b) j = ap (λ x. p.changes ++ cond x (change_by b b.action ∷ []) []) (long (is_deletion b.action) (is_cancellation b.stp) j) ∙ append-nil p.changes
+  where
+    long : (deletes cancels : Bool) → not (not deletes && not cancels) ≡ false → cond deletes true cancels ≡ false
+    long true cancels h = absurd (true≢false h)
+    long false true h = absurd (true≢false h)
+    long false false h = refl
+none_joins p (Operator o) j = append-nil p.changes
+none_joins p (Origin l) j = append-nil p.changes
+none_joins p (Intermediate l) j = append-nil p.changes
+none_joins p (Terminus l) j = absurd (true≢false j)
+none_joins p (Unread i) j = append-nil p.changes
+
+pub others_add_none : OtherRowsAddNone
+others_add_none s row c j read taken = ap (λ (p : Progress). p.changes) (row_moves s.extract row c read) ∙ none_joins s.extract c j

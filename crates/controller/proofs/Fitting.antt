@@ -8,7 +8,7 @@ use Rattle.cif.specs.declared.content.Action.TheVariants.{New as AsksNew, Revise
 use Rattle.cif.specs.declared.content.Location.{Location}
 use Rattle.cif.specs.declared.content.Content.{Content}
 use Rattle.cif.specs.declared.content.Content.TheVariants.{Header, Schedule, Operator, Origin, Intermediate, Terminus, Unread}
-use Rattle.cif.specs.declared.identity.Identity.TheVariants.{Header as IsHeader, BasicSchedule as IsSchedule, BasicExtra as IsExtra, Origin as IsOrigin, Intermediate as IsIntermediate, Terminus as IsTerminus}
+use Rattle.cif.specs.declared.identity.Identity.TheVariants.{Header as IsHeader, BasicSchedule as IsSchedule, BasicExtra as IsExtra, Origin as IsOrigin, Intermediate as IsIntermediate, Terminus as IsTerminus, ChangeEnRoute}
 use Rattle.cif.specs.declared.identity.Identity.{Identity}
 use Rattle.cif.specs.Refusals.{uppermost, is_missing}
 use Rattle.maps.proofs.Maps.{some_none}
@@ -29,6 +29,7 @@ use Rattle.extract.specs.Stages.{next_stage, is_reading}
 use Rattle.extract.specs.Progress.{Progress, change_by, is_brief, identity_for, after, ended_by}
 use Rattle.extract.specs.Judging.{Standing, overlay_in, asks_new, is_there, past_rows, past_transactions, change_lines, content_lines}
 use Rattle.controller.specs.Laws.{is_passing}
+use Rattle.controller.specs.ExtractRows.{is_other}
 use Rattle.controller.proofs.Stepping.{reads_on}
 
 -- whether a transaction may be done depends on the key of its schedule, which is one
@@ -70,9 +71,19 @@ no_line true false false false h = (refl, refl, refl)
 no_line false true many full h = (refl, refl, refl)
 no_line false false many full h = absurd (some_none _ h)
 
--- what a row can hold: of a row of which nothing is read only that it passes
+-- the rows of which nothing is read
+abbrev pub is_unread : Identity → Bool
+is_unread ChangeEnRoute = true
+is_unread i = is_other i
+
+unread_passes : (i : Identity) → is_unread i ≡ true → is_passing i ≡ true
+unread_passes IsSchedule h = absurd (true≢false (sym h))
+unread_passes IsTerminus h = absurd (true≢false (sym h))
+unread_passes i h = refl
+
+-- what a row can hold: that nothing is read, of such rows only
 abbrev pub is_sound : Content → Bool
-is_sound (Unread i) = is_passing i
+is_sound (Unread i) = is_unread i
 is_sound _ = true
 
 -- what an extract that agrees has pending and is reading may be done
@@ -154,4 +165,4 @@ module _ (s : Standing) (is : IsMap s.store.map) (within : IsWithinCapacity s.st
   may_after (Origin l) sound draft lawful taken none = goes_on IsOrigin _ _ _ taken refl (same_may (overlay_in s) s.extract.draft (λ r. with_call r l) (call_key l) draft)
   may_after (Intermediate l) sound draft lawful taken none = goes_on IsIntermediate _ _ _ taken refl (same_may (overlay_in s) s.extract.draft (λ r. with_call r l) (call_key l) draft)
   may_after (Terminus l) sound draft lawful taken none = ends l (last_lawful cs (ended_by l s.extract.draft) lawful) (ends_reading s.extract.stage taken) (ends_between s.extract.stage taken)
-  may_after (Unread i) sound draft lawful taken none = goes_on i _ _ s.extract.draft taken sound (λ m. m)
+  may_after (Unread i) sound draft lawful taken none = goes_on i _ _ s.extract.draft taken (unread_passes i sound) (λ m. m)

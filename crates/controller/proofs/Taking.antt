@@ -12,11 +12,12 @@ use Rattle.maps.proofs.Maps.{some_none}
 use Rattle.extract.specs.declared.stage.Stage.{Stage}
 use Rattle.extract.specs.Stages.{next_stage}
 use Rattle.extract.specs.Progress.{Progress, identity_for, after, after_row}
-use Rattle.extract.specs.Judging.{Standing, verdict_on, verdict_unless, is_misplaced, content_lines}
-use Rattle.controller.specs.Calls.{Row, refusals, told_with, bytes_verdict}
+use Rattle.extract.specs.Judging.{Standing, verdict_on, verdict_unless, is_misplaced, is_no_opening, content_lines}
+use Rattle.controller.specs.Calls.{Open, Row, refusals, refusal_of, told_with, bytes_verdict}
 use Rattle.controller.specs.ScheduleRows.{AreRead, IsTaken, AreTaken}
 use Rattle.controller.proofs.Heard.{heard_told}
-use Rattle.controller.proofs.Agreed.{content_sound, row_places}
+use Rattle.controller.proofs.Fitting.{is_sound}
+use Rattle.controller.proofs.Agreed.{content_sound}
 
 -- how a row is heard that is taken
 pub record HeardAs (misplaced : Stage → Identity → Bool) (s : Standing) (row : List ℕ) (p : Progress) : Type 0 where
@@ -66,7 +67,8 @@ taken_heard s row h =
 
 -- what a row holds that is taken is in place, and no line holds of it
 pub record Admits (s : Standing) (c : Content) : Type 0 where
-  pub place : is_missing (next_stage s.extract.stage (identity_for c) false) ≡ false
+  pub place : is_misplaced s.extract.stage (identity_for c) ≡ false
+  pub sound : is_sound c ≡ true
   pub lines : uppermost (content_lines s c) ≡ None
 
 -- the standing after it
@@ -78,15 +80,13 @@ AdmitsAll s [] = Unit {0}
 AdmitsAll s (c ∷ cs) = Admits s c × AdmitsAll (moved s c) cs
 
 -- the content of a row that was heard is the one that is read in it
-module _ {s : Standing} {row : List ℕ} {p : Progress} (h : HeardAs is_misplaced s row p) where
-  pub heard_read : read_in row ≡ Ok h.content
-  heard_read = ap (λ w. then (map_err (in_row blanks) w) (λ i. map_err (in_row (letters_in row)) (content_in i row))) h.whole ∙ ap (map_err (in_row (letters_in row))) h.read
+pub heard_read : {misplaced : Stage → Identity → Bool} {s : Standing} {row : List ℕ} {p : Progress} (h : HeardAs misplaced s row p) → read_in row ≡ Ok h.content
+heard_read {row = row} h = ap (λ w. then (map_err (in_row blanks) w) (λ i. map_err (in_row (letters_in row)) (content_in i row))) h.whole ∙ ap (map_err (in_row (letters_in row))) h.read
 
-  pub heard_admits : Admits s h.content
-  heard_admits = record {
-    place = ap (λ j. is_missing (next_stage s.extract.stage j false)) (content_sound h.identity row h.content h.read).0 ∙ row_places s.extract.stage h.identity h.place;
-    lines = h.lines;
-  }
+pub heard_admits : {s : Standing} {row : List ℕ} {p : Progress} (h : HeardAs is_misplaced s row p) → Admits s h.content
+heard_admits {s} {row} h =
+    let sound = content_sound h.identity row h.content h.read in
+    record { place = ap (is_misplaced s.extract.stage) sound.0 ∙ h.place; sound = sound.1; lines = h.lines }
 
 pub taken_admits : (s : Standing) (row : List ℕ) (c : Content) → read_in row ≡ Ok c → IsTaken s row → Admits s c
 taken_admits s row c read t =
@@ -105,3 +105,18 @@ taken_all s (row ∷ rows) (c ∷ cs) read t =
     let e = row_moves s.extract row c read.0 in
     let rest = taken_all (moved s c) rows cs read.1 (subst (λ (p : Progress). AreTaken (record s { extract = p }) rows) e t.1) in
     ((taken_admits s row c read.0 t.0, rest.0), ap (λ p. fold after_row p rows) e ∙ rest.1)
+
+-- rows that are taken are read
+pub taken_read : (s : Standing) (rows : List (List ℕ)) → AreTaken s rows → (cs : List Content) × AreRead rows cs
+taken_read s [] t = ([], tt)
+taken_read s (row ∷ rows) t =
+    let h = (taken_heard s row t.0).1 in
+    let rest = taken_read (record s { extract = after_row s.extract row }) rows t.1 in
+    (h.content ∷ rest.0, (heard_read h, rest.1))
+
+-- an HD that open takes
+pub opening_heard : (s : Standing) (row : List ℕ) → refusal_of (Open row) s 0 ≡ None → (p : Progress) × HeardAs is_no_opening s row p
+opening_heard s row h =
+    let none = none_mapped (told_with (Open row) s) (uppermost (refusals (Open row) s 0)) h in
+    let verdict = no_fault (bytes_verdict is_no_opening s row) (heard_told is_no_opening s row ∙ ap (option_map (told_in row)) none) in
+    (verdict.0, heard_as is_no_opening s row verdict.0 verdict.1)

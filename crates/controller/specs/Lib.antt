@@ -4,5 +4,6 @@ pub mod Agreeing
 pub mod Shown
 pub mod Laws
 pub mod ScheduleRows
+pub mod ExtractRows
 pub mod Ledger
 pub mod Keeping

@@ -1,5 +1,5 @@
 -- What the rows of a schedule come to.
-use Rattle.std.specs.Prelude.{◌≡◌, ℕ, ◌-◌, true, false, List, [], ◌∷◌, ◌++◌, length, map, filter, replicate, fold, Some, None, Ok, Option, ⊤}
+use Rattle.std.specs.Prelude.{◌≡◌, ℕ, ◌-◌, Bool, true, false, not, ◌&&◌, List, [], ◌∷◌, ◌++◌, length, map, filter, replicate, fold, Some, None, Ok, Option, ⊤}
 use Rattle.std.specs.Option.{unwrap_or}
 use Rattle.cif.specs.declared.content.BasicSchedule.{BasicSchedule}
 use Rattle.cif.specs.declared.content.Action.{Action}
@@ -111,10 +111,33 @@ pub record Join (joining : List Change) (before after : Progress) : Type 0 where
   pub changes : after.changes ≡ before.changes ++ joining
   pub stage : after.stage ≡ Between
 
--- the rows of a schedule, from a BS that neither deletes nor cancels to its LT, add one transaction: the one that they come to
+-- a BS begins a schedule where it neither deletes nor cancels
+abbrev pub begins_schedule : BasicSchedule → Bool
+begins_schedule b = not (is_deletion b.action) && not (is_cancellation b.stp)
+
+-- a transaction joins the pending ones at a BS that begins no schedule and at an LT
+abbrev pub joins_at : Content → Bool
+joins_at (Schedule b) = not (begins_schedule b)
+joins_at (Terminus l) = true
+joins_at _ = false
+
+-- the rows of a schedule, from a BS that begins it to its LT, add one transaction: the one that they come to
 abbrev pub ScheduleRowsMakeOne : Type 0
 ScheduleRowsMakeOne =
     (s : Standing) (rows : List (List ℕ)) (r : ScheduleRows)
-    → is_deletion r.basic.action ≡ false → is_cancellation r.basic.stp ≡ false
-    → AreRead rows (contents_of r) → AreTaken s rows
+    → begins_schedule r.basic ≡ true → AreRead rows (contents_of r) → AreTaken s rows
     → Join (transaction_in r ∷ []) s.extract (fold after_row s.extract rows)
+
+-- a BS that begins no schedule adds its own transaction at once
+abbrev pub BareRowJoinsAtOnce : Type 0
+BareRowJoinsAtOnce =
+    (s : Standing) (row : List ℕ) (b : BasicSchedule)
+    → begins_schedule b ≡ false → read_in row ≡ Ok (Schedule b) → IsTaken s row
+    → Join (bare_transaction_in b ∷ []) s.extract (after_row s.extract row)
+
+-- any other row adds none, at whatever stage: TI, TA, TD, AA, CR, ZZ, BX, LO, LI, and a BS that begins a schedule
+abbrev pub OtherRowsAddNone : Type 0
+OtherRowsAddNone =
+    (s : Standing) (row : List ℕ) (c : Content)
+    → joins_at c ≡ false → read_in row ≡ Ok c → IsTaken s row
+    → (after_row s.extract row).changes ≡ s.extract.changes

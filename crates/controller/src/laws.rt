@@ -1,6 +1,6 @@
 // Laws of extracts and of the table of refusals.
 ghost use Rattle.controller.specs.Laws.{OverlayIsOfRows, PendingMayBeDone, PendingFits, UppermostIsTold, ReadFromBsToLt, CallsInRowOrder};
-ghost use Rattle.controller.specs.ScheduleRows.{ScheduleRowsMakeOne};
+ghost use Rattle.controller.specs.ScheduleRows.{ScheduleRowsMakeOne, BareRowJoinsAtOnce, OtherRowsAddNone};
 
 /// The overlay's map is the store's with the transactions of the rows done in order, whatever the store.
 pub fn overlay_is_of_rows()
@@ -35,4 +35,14 @@ pub fn calls_in_row_order()
 /// The rows of a schedule make one transaction.
 pub fn schedule_rows_make_one_transaction()
     ensures { ScheduleRowsMakeOne }
+{}
+
+/// A BS that deletes or cancels adds its own transaction at once.
+pub fn bare_row_joins_at_once()
+    ensures { BareRowJoinsAtOnce }
+{}
+
+/// Any other row adds none.
+pub fn other_rows_add_none()
+    ensures { OtherRowsAddNone }
 {}
