@@ -159,6 +159,15 @@ module _ (bring : Record → Change) (brings : Brings bring) (b : BasicSchedule)
       (ap (bringing (λ r. with_operator r o)) at ∙ (brings.steps (λ r. with_operator r o) (made b d runs two_blanks seven_blanks []) ∙ ap bring (named b d runs two_blanks o seven_blanks [])))
       (inr (ap (λ st. unwrap_or (next_stage st IsExtra false) st) on)) a.1)
 
+-- a BS has no further rows where it begins no schedule
+pub brief_is : (b : BasicSchedule) → is_brief b ≡ not (begins_schedule b)
+brief_is b = of (is_deletion b.action) (is_cancellation b.stp)
+  where
+    of : (deletes cancels : Bool) → cond deletes true cancels ≡ not (not deletes && not cancels)
+    of true cancels = refl
+    of false true = refl
+    of false false = refl
+
 -- a BS is taken between two schedules only
 only_between : (st : Stage) → is_missing (next_stage st IsSchedule false) ≡ false → st ≡ Between
 only_between Idle h = absurd (true≢false h)
@@ -177,19 +186,16 @@ brings_revised = record { steps = λ f r. refl; lines = λ r l. refl }
 
 -- the rows of a schedule
 pub schedule_ends : (s : Standing) (r : ScheduleRows) → begins_schedule r.basic ≡ true → AdmitsAll s (contents_of r) → Join (transaction_in r ∷ []) s.extract (fold after s.extract (contents_of r))
-schedule_ends s r begins a = join_from _ s.extract _ _ none (of r.basic.action refl keeps)
+schedule_ends s r begins a = join_from _ s.extract _ _ none (of r.basic.action refl begins)
   where
     b : BasicSchedule
     b = r.basic
-
-    keeps : is_deletion b.action ≡ false
-    keeps = not-true (is_deletion b.action) (and_parts (not (is_deletion b.action)) (not (is_cancellation b.stp)) begins).0
 
     runs : is_cancellation b.stp ≡ false
     runs = not-true (is_cancellation b.stp) (and_parts (not (is_deletion b.action)) (not (is_cancellation b.stp)) begins).1
 
     long : is_brief b ≡ false
-    long = rw keeps runs
+    long = brief_is b ∙ ap not begins
 
     begun : (moved s (Schedule b)).extract.stage ≡ Begun
     begun = ap₂ (λ st brief. unwrap_or (next_stage st IsSchedule brief) st) (only_between s.extract.stage a.0.place) long
@@ -203,10 +209,10 @@ schedule_ends s r begins a = join_from _ s.extract _ _ none (of r.basic.action r
     Goal : Action → Type 0
     Goal c = Join (asked_with b c (unwrap_or r.operator two_blanks) r.terminus.tiploc (filter is_kept (locations_of r)) ∷ []) (moved s (Schedule b)).extract (fold after s.extract (contents_of r))
 
-    of : (c : Action) → b.action ≡ c → is_deletion c ≡ false → Goal b.action
+    of : (c : Action) → b.action ≡ c → begins_schedule b ≡ true → Goal b.action
     of (AsksNew d) e k = subst (λ (c : Action). Goal c) (sym e) (operator_ends New brings_new b d runs (moved s (Schedule b)) r.operator r.origin r.way r.terminus (asks ∙ ap (change_by b) e) begun a.1)
     of (AsksRevise d) e k = subst (λ (c : Action). Goal c) (sym e) (operator_ends Revise brings_revised b d runs (moved s (Schedule b)) r.operator r.origin r.way r.terminus (asks ∙ ap (change_by b) e) begun a.1)
-    of AsksDelete e k = absurd (true≢false k)
+    of AsksDelete e k = absurd (true≢false (sym k ∙ ap (λ c. not (is_deletion c) && not (is_cancellation b.stp)) e))
 
 -- and so where they are taken
 pub schedule_made : ScheduleRowsMakeOne
@@ -214,15 +220,9 @@ schedule_made s rows r begins read taken =
     let t = taken_all s rows (contents_of r) read taken in
     subst (λ (p : Progress). Join (transaction_in r ∷ []) s.extract p) (sym t.1) (schedule_ends s r begins t.0)
 
--- a BS that begins no schedule is brief
-is_bare : (deletes cancels : Bool) → (not deletes && not cancels) ≡ false → cond deletes true cancels ≡ true
-is_bare true cancels h = refl
-is_bare false true h = refl
-is_bare false false h = absurd (true≢false h)
-
 pub bare_joins : (s : Standing) (b : BasicSchedule) → begins_schedule b ≡ false → Admits s (Schedule b) → Join (bare_transaction_in b ∷ []) s.extract (after s.extract (Schedule b))
 bare_joins s b bare a =
-    let brief = is_bare (is_deletion b.action) (is_cancellation b.stp) bare in
+    let brief = brief_is b ∙ ap not bare in
     record {
       changes = ap (λ x. s.extract.changes ++ cond x (change_by b b.action ∷ []) []) brief ∙ ap (λ c. s.extract.changes ++ c ∷ []) (of b.action);
       stage = ap₂ (λ st x. unwrap_or (next_stage st IsSchedule x) st) (only_between s.extract.stage a.place) brief;
@@ -239,12 +239,7 @@ bare_made s row b bare read taken =
 
 pub none_joins : (p : Progress) (c : Content) → joins_at c ≡ false → (after p c).changes ≡ p.changes
 none_joins p (Header h) j = append-nil p.changes
-none_joins p (Schedule b) j = ap (λ x. p.changes ++ cond x (change_by b b.action ∷ []) []) (long (is_deletion b.action) (is_cancellation b.stp) j) ∙ append-nil p.changes
-  where
-    long : (deletes cancels : Bool) → not (not deletes && not cancels) ≡ false → cond deletes true cancels ≡ false
-    long true cancels h = absurd (true≢false h)
-    long false true h = absurd (true≢false h)
-    long false false h = refl
+none_joins p (Schedule b) j = ap (λ x. p.changes ++ cond x (change_by b b.action ∷ []) []) (brief_is b ∙ j) ∙ append-nil p.changes
 none_joins p (Operator o) j = append-nil p.changes
 none_joins p (Origin l) j = append-nil p.changes
 none_joins p (Intermediate l) j = append-nil p.changes

@@ -5,6 +5,7 @@ pub mod Fitting
 pub mod Agreed
 pub mod Taking
 pub mod Building
+pub mod Parting
 pub mod Called
 pub mod Lawful
 pub mod Kept

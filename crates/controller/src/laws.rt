@@ -1,6 +1,7 @@
 // Laws of extracts and of the table of refusals.
 ghost use Rattle.controller.specs.Laws.{OverlayIsOfRows, PendingMayBeDone, PendingFits, UppermostIsTold, ReadFromBsToLt, CallsInRowOrder};
 ghost use Rattle.controller.specs.ScheduleRows.{ScheduleRowsMakeOne, BareRowJoinsAtOnce, OtherRowsAddNone};
+ghost use Rattle.controller.specs.ExtractRows.{RowsComeToParts, ExtractComesToParts};
 
 /// The overlay's map is the store's with the transactions of the rows done in order, whatever the store.
 pub fn overlay_is_of_rows()
@@ -45,4 +46,14 @@ pub fn bare_row_joins_at_once()
 /// Any other row adds none.
 pub fn other_rows_add_none()
     ensures { OtherRowsAddNone }
+{}
+
+/// Rows that leave no schedule half read come to the transactions of their parts.
+pub fn rows_come_to_parts()
+    ensures { RowsComeToParts }
+{}
+
+/// A whole extract comes to the transactions of its parts.
+pub fn extract_comes_to_parts()
+    ensures { ExtractComesToParts }
 {}
