@@ -1,5 +1,5 @@
 -- A row that is taken leaves the extract in agreement with the rows, the new one included.
-use Rattle.std.proofs.Common.{◌≡◌, ℕ, Bool, true, false, List, [], ◌∷◌, ◌++◌, Some, None, Ok, Err, Option, Result, sym, refl, ap, ◌∙◌, subst, arith}
+use Rattle.std.proofs.Common.{◌≡◌, ℕ, Bool, true, false, List, [], ◌∷◌, ◌++◌, Ok, Err, Result, sym, refl, ap, ◌∙◌, subst, arith}
 use Rattle.std.proofs.lemmas.List.Sums.{fold_push}
 use Rattle.std.proofs.lemmas.Bool.Decides.{nat_tests}
 use Rattle.cif.specs.declared.content.Content.{Content}
@@ -7,20 +7,19 @@ use Rattle.cif.specs.declared.content.Content.TheVariants.{Header as OfHeader, S
 use Rattle.cif.specs.declared.identity.Identity.{Identity}
 use Rattle.cif.specs.declared.identity.Identity.TheVariants.{Header, BasicSchedule, BasicExtra, Origin, Intermediate, Terminus, ChangeEnRoute, TiplocInsert, TiplocAmend, TiplocDelete, Association, Trailer}
 use Rattle.cif.specs.declared.refusal.ColumnFault.{ColumnFault}
-use Rattle.cif.specs.Refusals.{is_missing, then, map_err, in_row, uppermost}
-use Rattle.cif.specs.Rows.{whole_in}
+use Rattle.cif.specs.Refusals.{is_missing, then}
 use Rattle.cif.specs.Fields.{header_in, schedule_in, operator_in, origin_in, intermediate_in, terminus_in}
-use Rattle.cif.specs.Reading.{letters_in, blanks, content_in}
+use Rattle.cif.specs.Reading.{content_in}
 use Rattle.cif.proofs.Results.{ok_is, err_ok}
 use Rattle.schedule.specs.Transactions.{is_lawful, every_lawful}
 use Rattle.timetable.specs.Timetables.{IsMap, IsWithinCapacity}
 use Rattle.extract.specs.declared.stage.Stage.{Stage}
 use Rattle.extract.specs.Stages.{next_stage}
 use Rattle.extract.specs.Progress.{Progress, identity_for, after, after_row, idle}
-use Rattle.extract.specs.Judging.{Standing, verdict_on, verdict_unless, is_misplaced, is_no_opening, content_lines}
+use Rattle.extract.specs.Judging.{Standing, is_misplaced, is_no_opening}
 use Rattle.controller.specs.Calls.{bytes_verdict}
 use Rattle.controller.specs.Agreeing.{Agrees}
-use Rattle.controller.proofs.Heard.{heard_after}
+use Rattle.controller.proofs.Heard.{heard_as, heard_after}
 use Rattle.controller.proofs.Fitting.{is_sound, MayGoOn, may_after}
 
 -- what a row of an identity can hold
@@ -64,26 +63,13 @@ module _ (misplaced : Stage → Identity → Bool) (places : Places misplaced) (
   Goal = MayGoOn s.store p
 
   heard_may : bytes_verdict misplaced s row ≡ Ok p → Goal
-  heard_may h = at (whole_in row) h
-    where
-      judge : (i : Identity) (c : Content) → Sound i c → is_missing (next_stage s.extract.stage i false) ≡ false → (o : Option ColumnFault) → uppermost (content_lines s c) ≡ o → map_err (in_row (letters_in row)) (elim o [ Some f ↦ Err f | None ↦ Ok (after s.extract c) ]) ≡ Ok p → Goal
-      judge i c sound taken (Some f) e h = err_ok _ p _ refl h
-      judge i c sound taken None e h =
-          let same : after s.extract c ≡ p = ok_is _ (after s.extract c) p refl h in
-          subst (λ (q : Progress). MayGoOn s.store q) same
-          (may_after s is within may c sound.1 (ap (λ (q : Progress). is_lawful q.draft) same ∙ draft) (ap (λ (q : Progress). every_lawful q.changes) same ∙ lawful) (ap (λ j. is_missing (next_stage s.extract.stage j false)) sound.0 ∙ taken) e)
-
-      content : (i : Identity) → is_missing (next_stage s.extract.stage i false) ≡ false → (r : Result Content ColumnFault) → content_in i row ≡ r → map_err (in_row (letters_in row)) (then r (λ c. verdict_on s c)) ≡ Ok p → Goal
-      content i taken (Err e) q h = err_ok _ p _ refl h
-      content i taken (Ok c) q h = judge i c (content_sound i row c q) taken (uppermost (content_lines s c)) refl h
-
-      place : (i : Identity) (b : Bool) → misplaced s.extract.stage i ≡ b → map_err (in_row (letters_in row)) (verdict_unless b s i row) ≡ Ok p → Goal
-      place i true q h = err_ok _ p _ refl h
-      place i false q h = content i (places s.extract.stage i q) (content_in i row) refl h
-
-      at : (whole : Result Identity ColumnFault) → then (map_err (in_row blanks) whole) (λ i. map_err (in_row (letters_in row)) (verdict_unless (misplaced s.extract.stage i) s i row)) ≡ Ok p → Goal
-      at (Err e) h = err_ok _ p _ refl h
-      at (Ok i) h = place i (misplaced s.extract.stage i) refl h
+  heard_may v =
+      let h = heard_as misplaced s row p v in
+      let sound = content_sound h.identity row h.content h.read in
+      let same : after s.extract h.content ≡ p = sym h.moved in
+      subst (λ (q : Progress). MayGoOn s.store q) same
+      (may_after s is within may h.content sound.1 (ap (λ (q : Progress). is_lawful q.draft) same ∙ draft) (ap (λ (q : Progress). every_lawful q.changes) same ∙ lawful)
+      (ap (λ j. is_missing (next_stage s.extract.stage j false)) sound.0 ∙ places s.extract.stage h.identity h.place) h.lines)
 
 -- one row more
 pub agrees_more : (misplaced : Stage → Identity → Bool) → Places misplaced → (s : Standing) (row : List ℕ) (p : Progress) (rows : List (List ℕ)) → is_lawful p.draft ≡ true → every_lawful p.changes ≡ true → bytes_verdict misplaced s row ≡ Ok p → Agrees s.store rows s.extract → Agrees s.store (rows ++ row ∷ []) p

@@ -1,5 +1,5 @@
 -- The rows of a schedule build the one that they come to, row by row.
-use Rattle.std.proofs.Common.{◌≡◌, ℕ, suc, ◌+◌, ◌-◌, ◌<◌, Bool, true, false, cond, not, ◌&&◌, leb, List, [], ◌∷◌, ◌++◌, length, map, filter, set, replicate, Some, None, Option, ◌⊎◌, inl, inr, fold, unwrap_or, sym, refl, ap, ap₂, ◌∙◌, subst, append-nil, append_assoc, arith}
+use Rattle.std.proofs.Common.{◌≡◌, ℕ, suc, ◌-◌, ◌<◌, Bool, true, false, cond, not, ◌&&◌, leb, List, [], ◌∷◌, ◌++◌, length, map, filter, set, replicate, Some, None, Option, ◌⊎◌, inl, inr, fold, unwrap_or, sym, refl, ap, ap₂, ◌∙◌, subst, append-nil, append_assoc, arith}
 use Rattle.std.proofs.lemmas.Bool.{true≢false, leb-false, not-true, and_parts}
 use Rattle.std.proofs.lemmas.List.{set_at, length_push}
 use Rattle.std.proofs.lemmas.List.Elements.{filter-append}
@@ -26,7 +26,8 @@ use Rattle.extract.specs.Progress.{Progress, change_by, is_deletion, is_brief, a
 use Rattle.extract.specs.Judging.{Standing}
 use Rattle.extract.proofs.Lines.{none_first}
 use Rattle.controller.specs.ScheduleRows.{WayRow, LI, CR, way_content, way_locations, operator_contents, ScheduleRows, contents_of, locations_of, schedule_with, asked_with, transaction_in, bare_transaction_in, begins_schedule, joins_at, Join, ScheduleRowsMakeOne, BareRowJoinsAtOnce, OtherRowsAddNone}
-use Rattle.controller.proofs.Taking.{Admits, AdmitsAll, moved, taken_admits, row_moves, taken_all}
+use Rattle.controller.proofs.Heard.{row_moves}
+use Rattle.controller.proofs.Taking.{Admits, AdmitsAll, moved, taken_admits, taken_all}
 
 -- a call more in the first of 48 places that is free
 filled_more : (calls : List Location) (l : Location) → length calls < 48 → set (calls ++ replicate (48 - length calls) filler) (length calls) l ≡ (calls ++ l ∷ []) ++ replicate (48 - length (calls ++ l ∷ [])) filler

@@ -99,24 +99,47 @@ module _ (misplaced : Stage → Identity → Bool) (s : Standing) (row : List �
           ∙ (late_told row (placed (misplaced s.extract.stage i) s i row) (placed_late (misplaced s.extract.stage i) s i row)
           ∙ ap (λ o. option_map (told_in row) (uppermost (line OutOfPlace 1 (misplaced s.extract.stage i) ∷ (field_lines i row ++ (held_lines s o ++ []))))) (sym (value_raised (in_row (letters_in row)) (content_in i row)))))
 
-  pub heard_after : (p : Progress) → bytes_verdict misplaced s row ≡ Ok p → p ≡ after_row s.extract row
-  heard_after p h = at (whole_in row) h
+-- how a row is heard that is taken
+pub record HeardAs (misplaced : Stage → Identity → Bool) (s : Standing) (row : List ℕ) (p : Progress) : Type 0 where
+  pub identity : Identity
+  pub content : Content
+  pub whole : whole_in row ≡ Ok identity
+  pub place : misplaced s.extract.stage identity ≡ false
+  pub read : content_in identity row ≡ Ok content
+  pub lines : uppermost (content_lines s content) ≡ None
+  pub moved : p ≡ after s.extract content
+
+module _ (misplaced : Stage → Identity → Bool) (s : Standing) (row : List ℕ) (p : Progress) where
+  pub heard_as : bytes_verdict misplaced s row ≡ Ok p → HeardAs misplaced s row p
+  heard_as h = at (whole_in row) refl h
     where
-      judge : (c : Content) (o : Option ColumnFault) → map_err (in_row (letters_in row)) (elim o [ Some f ↦ Err f | None ↦ Ok (after s.extract c) ]) ≡ Ok p → p ≡ after s.extract c
-      judge c (Some f) h = err_ok _ p _ refl h
-      judge c None h = ok_is _ p (after s.extract c) h refl
+      judge : (i : Identity) (c : Content) → whole_in row ≡ Ok i → misplaced s.extract.stage i ≡ false → content_in i row ≡ Ok c → (o : Option ColumnFault) → uppermost (content_lines s c) ≡ o
+          → map_err (in_row (letters_in row)) (elim o [ Some f ↦ Err f | None ↦ Ok (after s.extract c) ]) ≡ Ok p → HeardAs misplaced s row p
+      judge i c w q r (Some f) e h = err_ok _ p _ refl h
+      judge i c w q r None e h = record { identity = i; content = c; whole = w; place = q; read = r; lines = e; moved = ok_is _ p (after s.extract c) h refl }
 
-      content : (r : Result Content ColumnFault) → map_err (in_row (letters_in row)) (then r (λ c. verdict_on s c)) ≡ Ok p → p ≡ elim (map_err (in_row (letters_in row)) r) [ Ok c ↦ after s.extract c | Err e ↦ s.extract ]
-      content (Err e) h = err_ok _ p _ refl h
-      content (Ok c) h = judge c (uppermost (content_lines s c)) h
+      read : (i : Identity) → whole_in row ≡ Ok i → misplaced s.extract.stage i ≡ false → (r : Result Content ColumnFault) → content_in i row ≡ r → map_err (in_row (letters_in row)) (then r (λ c. verdict_on s c)) ≡ Ok p → HeardAs misplaced s row p
+      read i w q (Err e) r h = err_ok _ p _ refl h
+      read i w q (Ok c) r h = judge i c w q r (uppermost (content_lines s c)) refl h
 
-      place : (b : Bool) (i : Identity) → map_err (in_row (letters_in row)) (verdict_unless b s i row) ≡ Ok p → p ≡ elim (map_err (in_row (letters_in row)) (content_in i row)) [ Ok c ↦ after s.extract c | Err e ↦ s.extract ]
-      place true i h = err_ok _ p _ refl h
-      place false i h = content (content_in i row) h
+      place : (i : Identity) → whole_in row ≡ Ok i → (b : Bool) → misplaced s.extract.stage i ≡ b → map_err (in_row (letters_in row)) (verdict_unless b s i row) ≡ Ok p → HeardAs misplaced s row p
+      place i w true q h = err_ok _ p _ refl h
+      place i w false q h = read i w q (content_in i row) refl h
 
-      at : (whole : Result Identity ColumnFault) → heard_of whole ≡ Ok p → p ≡ elim (read_of whole) [ Ok c ↦ after s.extract c | Err e ↦ s.extract ]
-      at (Err e) h = err_ok _ p _ refl h
-      at (Ok i) h = place (misplaced s.extract.stage i) i h
+      at : (whole : Result Identity ColumnFault) → whole_in row ≡ whole → then (map_err (in_row blanks) whole) (λ i. map_err (in_row (letters_in row)) (verdict_unless (misplaced s.extract.stage i) s i row)) ≡ Ok p → HeardAs misplaced s row p
+      at (Err e) w h = err_ok _ p _ refl h
+      at (Ok i) w h = place i w (misplaced s.extract.stage i) refl h
+
+-- the content of a row that was heard is the one that is read in it
+pub heard_read : {misplaced : Stage → Identity → Bool} {s : Standing} {row : List ℕ} {p : Progress} (h : HeardAs misplaced s row p) → read_in row ≡ Ok h.content
+heard_read {row = row} h = ap (λ w. then (map_err (in_row blanks) w) (λ i. map_err (in_row (letters_in row)) (content_in i row))) h.whole ∙ ap (map_err (in_row (letters_in row))) h.read
+
+-- a row that was read moves the extract on by what it holds
+pub row_moves : (p : Progress) (row : List ℕ) (c : Content) → read_in row ≡ Ok c → after_row p row ≡ after p c
+row_moves p row c read = ap (λ r. elim r [ Ok x ↦ after p x | Err e ↦ p ]) read
+
+pub heard_after : (misplaced : Stage → Identity → Bool) (s : Standing) (row : List ℕ) (p : Progress) → bytes_verdict misplaced s row ≡ Ok p → p ≡ after_row s.extract row
+heard_after misplaced s row p v = let h = heard_as misplaced s row p v in h.moved ∙ sym (row_moves s.extract row h.content (heard_read h))
 
 -- what a fault with its place beside it says
 pub with_place_ok : {X E P : Type 0} (r : Result X E) (place : P) (x : X) → map_err {F = E × P} (λ e. (e, place)) r ≡ Ok x → r ≡ Ok x

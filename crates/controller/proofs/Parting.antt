@@ -1,5 +1,5 @@
 -- The rows of an extract are cut into its parts.
-use Rattle.std.proofs.Common.{◌≡◌, ℕ, Bool, true, false, not, ◌&&◌, List, [], ◌∷◌, ◌++◌, map, Some, None, Ok, Option, flat_map, fold, unwrap_or, sym, refl, ap, ap₂, ◌∙◌, subst, append-nil, append_assoc}
+use Rattle.std.proofs.Common.{◌≡◌, ℕ, Bool, true, false, not, ◌&&◌, List, [], ◌∷◌, ◌++◌, map, Some, None, Option, flat_map, fold, unwrap_or, sym, refl, ap, ◌∙◌, subst, append-nil, append_assoc}
 use Rattle.std.specs.List.{list_all}
 use Rattle.std.proofs.lemmas.Bool.{true≢false, and_parts, and_from, not-true}
 use Rattle.std.proofs.lemmas.List.Sums.{fold-append}
@@ -7,22 +7,20 @@ use Rattle.cif.specs.declared.content.BasicSchedule.{BasicSchedule}
 use Rattle.cif.specs.declared.content.Location.{Location}
 use Rattle.cif.specs.declared.content.Content.{Content}
 use Rattle.cif.specs.declared.content.Content.TheVariants.{Header, Schedule, Operator, Origin, Intermediate, Terminus, Unread}
-use Rattle.cif.specs.declared.identity.Identity.{Identity}
-use Rattle.cif.specs.declared.identity.Identity.TheVariants.{Header as IsHeader, ChangeEnRoute, TiplocInsert, TiplocAmend, TiplocDelete, Association, Trailer}
+use Rattle.cif.specs.declared.identity.Identity.TheVariants.{ChangeEnRoute, TiplocInsert, TiplocAmend, TiplocDelete, Association, Trailer}
 use Rattle.schedule.specs.declared.transaction.Change.{Change}
-use Rattle.timetable.specs.Timetables.{Meaning}
 use Rattle.extract.specs.declared.stage.Stage.{Stage}
 use Rattle.extract.specs.declared.stage.Stage.TheVariants.{Idle, Between, Begun, Extra, Running, Changed, Complete}
 use Rattle.extract.specs.Stages.{next_stage, is_reading}
-use Rattle.extract.specs.Progress.{Progress, is_deletion, is_brief, identity_for, brief_in, idle, after, after_row, progress_of}
+use Rattle.extract.specs.Progress.{Progress, identity_for, brief_in, idle, after, after_row, progress_of}
 use Rattle.extract.specs.Judging.{Standing, is_misplaced, is_no_opening}
-use Rattle.schedule.specs.Records.{is_cancellation}
-use Rattle.controller.specs.ScheduleRows.{WayRow, LI, CR, way_content, operator_contents, ScheduleRows, contents_of, begins_schedule, AreRead, AreTaken}
+use Rattle.controller.specs.ScheduleRows.{WayRow, LI, CR, way_content, operator_contents, ScheduleRows, begins_schedule, AreRead}
 use Rattle.controller.specs.ExtractRows.{Part, Whole, Bare, Other, is_part, part_contents, part_transactions, ComeTo, RowsComeToParts, idle_over, ExtractComesToParts}
 use Rattle.controller.proofs.Fitting.{is_sound}
-use Rattle.controller.proofs.Taking.{AdmitsAll, moved, heard_read, row_moves, taken_all, taken_read, opening_heard}
+use Rattle.controller.proofs.Heard.{heard_read, row_moves}
+use Rattle.controller.proofs.Taking.{AdmitsAll, moved, taken_all, taken_read, opening_heard}
 use Rattle.controller.proofs.Agreed.{content_sound}
-use Rattle.controller.proofs.Building.{schedule_ends, bare_joins, brief_is, none_joins}
+use Rattle.controller.proofs.Building.{schedule_ends, bare_joins, brief_is}
 
 -- what rows hold, cut into parts
 record Cut (cs : List Content) : Type 0 where

@@ -9,7 +9,7 @@ use Rattle.cif.specs.declared.identity.Identity.TheVariants.{TiplocInsert, Tiplo
 use Rattle.schedule.specs.declared.transaction.Change.{Change}
 use Rattle.timetable.specs.Timetables.{Meaning}
 use Rattle.extract.specs.Stages.{is_reading}
-use Rattle.extract.specs.Progress.{Progress, idle, after_row, progress_of}
+use Rattle.extract.specs.Progress.{idle, after_row, progress_of}
 use Rattle.extract.specs.Judging.{Standing}
 use Rattle.controller.specs.Calls.{Open, refusal_of}
 use Rattle.controller.specs.ScheduleRows.{ScheduleRows, contents_of, transaction_in, bare_transaction_in, begins_schedule, AreRead, AreTaken}

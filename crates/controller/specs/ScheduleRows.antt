@@ -8,7 +8,6 @@ use Rattle.cif.specs.declared.content.Running.{Running as Days}
 use Rattle.cif.specs.declared.content.Location.{Location}
 use Rattle.cif.specs.declared.content.Content.{Content}
 use Rattle.cif.specs.declared.content.Content.TheVariants.{Schedule, Operator, Origin, Intermediate, Terminus, Unread}
-use Rattle.cif.specs.declared.identity.Identity.{Identity}
 use Rattle.cif.specs.declared.identity.Identity.TheVariants.{ChangeEnRoute}
 use Rattle.cif.specs.Reading.{read_in}
 use Rattle.schedule.specs.declared.record.Record.{Record}

@@ -82,12 +82,9 @@ impl Extract {
         if is_mismatch(&header, reference) {
             return Err(Refusal::ReferenceMismatch.at(40));
         }
-        *self = Extract {
-            stage: Stage::Between,
-            taken: 1,
-            current: header.current,
-            draft: self.draft,
-        };
+        self.stage = Stage::Between;
+        self.taken = 1;
+        self.current = header.current;
         Ok(())
     }
 
