@@ -6,6 +6,7 @@ pub mod Agreed
 pub mod Taking
 pub mod Building
 pub mod Parting
+pub mod Worked
 pub mod Called
 pub mod Lawful
 pub mod Kept

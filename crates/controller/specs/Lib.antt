@@ -5,5 +5,6 @@ pub mod Shown
 pub mod Laws
 pub mod ScheduleRows
 pub mod ExtractRows
+pub mod WorkedExtract
 pub mod Ledger
 pub mod Keeping

@@ -2,6 +2,7 @@
 ghost use Rattle.controller.specs.Laws.{OverlayIsOfRows, PendingMayBeDone, PendingFits, UppermostIsTold, ReadFromBsToLt, CallsInRowOrder};
 ghost use Rattle.controller.specs.ScheduleRows.{ScheduleRowsMakeOne, BareRowJoinsAtOnce, OtherRowsAddNone};
 ghost use Rattle.controller.specs.ExtractRows.{RowsComeToParts, ExtractComesToParts};
+ghost use Rattle.controller.specs.WorkedExtract.{WorkedExtract};
 
 /// The overlay's map is the store's with the transactions of the rows done in order, whatever the store.
 pub fn overlay_is_of_rows()
@@ -56,4 +57,9 @@ pub fn rows_come_to_parts()
 /// A whole extract comes to the transactions of its parts.
 pub fn extract_comes_to_parts()
     ensures { ExtractComesToParts }
+{}
+
+/// A worked extract is taken row by row, and comes to its two transactions.
+pub fn worked_extract()
+    ensures { WorkedExtract }
 {}
