@@ -25,7 +25,7 @@ use Rattle.extract.specs.Stages.{next_stage}
 use Rattle.extract.specs.Progress.{Progress, change_by, is_deletion, is_brief, after}
 use Rattle.extract.specs.Judging.{Standing}
 use Rattle.extract.proofs.Lines.{none_first}
-use Rattle.controller.specs.ScheduleRows.{WayRow, LI, CR, way_content, way_locations, operator_contents, ScheduleRows, contents_of, locations_of, schedule_with, asked_with, transaction_in, bare_transaction_in, begins_schedule, joins_at, Join, ScheduleRowsMakeOne, BareRowJoinsAtOnce, OtherRowsAddNone}
+use Rattle.controller.specs.ScheduleRows.{WayRow, LI, CR, way_content, way_locations, operator_contents, ScheduleRows, contents_of, locations_of, schedule_with, asked_with, transaction_in, brief_transaction_in, begins_schedule, joins_at, Join, ScheduleRowsMakeOne, BriefRowJoinsAtOnce, OtherRowsAddNone}
 use Rattle.controller.proofs.Heard.{row_moves}
 use Rattle.controller.proofs.Taking.{Admits, AdmitsAll, moved, taken_admits, taken_all}
 
@@ -109,9 +109,9 @@ module _ (bring : Record → Change) (brings : Brings bring) (b : BasicSchedule)
   terminus_ends : (s : Standing) (calls : List Location) (t : Location) → s.extract.draft ≡ drafted calls → OnWay s.extract.stage → Admits s (Terminus t) → Ends s (calls ++ filter is_kept (t ∷ [])) (Terminus t ∷ []) t
   terminus_ends s calls t at (inl on) a = record {
     changes = ap (λ c. s.extract.changes ++ c ∷ []) (
-      ap (bringing (λ r. with_destination r t.tiploc)) (call_drafted s calls t _ at a.lines)
-      ∙ (brings.steps (λ r. with_destination r t.tiploc) (made b d runs o seven_blanks (calls ++ filter is_kept (t ∷ [])))
-      ∙ ap bring (bound b d runs o seven_blanks t.tiploc (calls ++ filter is_kept (t ∷ [])))));
+        ap (bringing (λ r. with_destination r t.tiploc)) (call_drafted s calls t _ at a.lines)
+        ∙ (brings.steps (λ r. with_destination r t.tiploc) (made b d runs o seven_blanks (calls ++ filter is_kept (t ∷ [])))
+        ∙ ap bring (bound b d runs o seven_blanks t.tiploc (calls ++ filter is_kept (t ∷ [])))));
     stage = ap (λ st. unwrap_or (next_stage st IsTerminus false) st) on;
   }
   terminus_ends s calls t at (inr on) a = absurd (true≢false (sym (ap (λ st. is_missing (next_stage st IsTerminus false)) on) ∙ a.place))
@@ -221,9 +221,9 @@ schedule_made s rows r begins read taken =
     let t = taken_all s rows (contents_of r) read taken in
     subst (λ (p : Progress). Join (transaction_in r ∷ []) s.extract p) (sym t.1) (schedule_ends s r begins t.0)
 
-pub bare_joins : (s : Standing) (b : BasicSchedule) → begins_schedule b ≡ false → Admits s (Schedule b) → Join (bare_transaction_in b ∷ []) s.extract (after s.extract (Schedule b))
-bare_joins s b bare a =
-    let brief = brief_is b ∙ ap not bare in
+pub brief_joins : (s : Standing) (b : BasicSchedule) → begins_schedule b ≡ false → Admits s (Schedule b) → Join (brief_transaction_in b ∷ []) s.extract (after s.extract (Schedule b))
+brief_joins s b alone a =
+    let brief = brief_is b ∙ ap not alone in
     record {
       changes = ap (λ x. s.extract.changes ++ cond x (change_by b b.action ∷ []) []) brief ∙ ap (λ c. s.extract.changes ++ c ∷ []) (of b.action);
       stage = ap₂ (λ st x. unwrap_or (next_stage st IsSchedule x) st) (only_between s.extract.stage a.place) brief;
@@ -234,9 +234,9 @@ bare_joins s b bare a =
     of (AsksRevise d) = refl
     of AsksDelete = refl
 
-pub bare_made : BareRowJoinsAtOnce
-bare_made s row b bare read taken =
-    subst (λ (p : Progress). Join (bare_transaction_in b ∷ []) s.extract p) (sym (row_moves s.extract row (Schedule b) read)) (bare_joins s b bare (taken_admits s row (Schedule b) read taken))
+pub brief_made : BriefRowJoinsAtOnce
+brief_made s row b alone read taken =
+    subst (λ (p : Progress). Join (brief_transaction_in b ∷ []) s.extract p) (sym (row_moves s.extract row (Schedule b) read)) (brief_joins s b alone (taken_admits s row (Schedule b) read taken))
 
 pub none_joins : (p : Progress) (c : Content) → joins_at c ≡ false → (after p c).changes ≡ p.changes
 none_joins p (Header h) j = append-nil p.changes

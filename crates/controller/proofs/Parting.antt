@@ -12,15 +12,15 @@ use Rattle.schedule.specs.declared.transaction.Change.{Change}
 use Rattle.extract.specs.declared.stage.Stage.{Stage}
 use Rattle.extract.specs.declared.stage.Stage.TheVariants.{Idle, Between, Begun, Extra, Running, Changed, Complete}
 use Rattle.extract.specs.Stages.{next_stage, is_reading}
-use Rattle.extract.specs.Progress.{Progress, identity_for, brief_in, idle, after, after_row, progress_of}
+use Rattle.extract.specs.Progress.{Progress, identity_for, brief_in, idle, after, progress_of}
 use Rattle.extract.specs.Judging.{Standing, is_misplaced, is_no_opening}
-use Rattle.controller.specs.ScheduleRows.{WayRow, LI, CR, way_content, operator_contents, ScheduleRows, begins_schedule, AreRead}
-use Rattle.controller.specs.ExtractRows.{Part, Whole, Bare, Other, is_part, part_contents, part_transactions, ComeTo, RowsComeToParts, idle_over, ExtractComesToParts}
+use Rattle.controller.specs.ScheduleRows.{WayRow, LI, CR, way_content, operator_contents, ScheduleRows, begins_schedule, AreRead, standing_after}
+use Rattle.controller.specs.ExtractRows.{Part, Whole, Brief, Other, is_part, part_contents, part_transactions, ComeTo, RowsComeToParts, idle_over, ExtractComesToParts}
 use Rattle.controller.proofs.Fitting.{is_sound}
 use Rattle.controller.proofs.Heard.{heard_read, row_moves}
 use Rattle.controller.proofs.Taking.{AdmitsAll, moved, taken_all, taken_read, opening_heard}
 use Rattle.controller.proofs.Agreed.{content_sound}
-use Rattle.controller.proofs.Building.{schedule_ends, bare_joins, brief_is}
+use Rattle.controller.proofs.Building.{schedule_ends, brief_joins, brief_is}
 
 -- what rows hold, cut into parts
 record Cut (cs : List Content) : Type 0 where
@@ -99,7 +99,7 @@ stage_after st c = unwrap_or (next_stage st (identity_for c) (brief_in c)) st
 -- a BS cuts by whether it begins a schedule
 schedule_more : (b : BasicSchedule) (cs : List Content) (begins : Bool) → begins_schedule b ≡ begins → CutFrom (stage_after Between (Schedule b)) cs → Cut (Schedule b ∷ cs)
 schedule_more b cs true e f = whole_more b cs e (subst (λ (x : Bool). CutFrom (unwrap_or (next_stage Between (identity_for (Schedule b)) x) Between) cs) (brief_is b ∙ ap not e) f)
-schedule_more b cs false e c = part_more (Bare b) (Schedule b ∷ cs) cs (rw e refl) refl (subst (λ (x : Bool). CutFrom (unwrap_or (next_stage Between (identity_for (Schedule b)) x) Between) cs) (brief_is b ∙ ap not e) c)
+schedule_more b cs false e c = part_more (Brief b) (Schedule b ∷ cs) cs (rw e refl) refl (subst (λ (x : Bool). CutFrom (unwrap_or (next_stage Between (identity_for (Schedule b)) x) Between) cs) (brief_is b ∙ ap not e) c)
 
 row_more : (st : Stage) (c : Content) (cs : List Content) → fits st c ≡ true → CutFrom (stage_after st c) cs → CutFrom st (c ∷ cs)
 row_more Between (Schedule b) cs h k = schedule_more b cs (begins_schedule b) refl k
@@ -154,7 +154,7 @@ admits_both (x ∷ xs) ys s a = let r = admits_both xs ys (moved s x) a.1 in ((a
 
 part_adds : (part : Part) (s : Standing) → is_part part ≡ true → AdmitsAll s (part_contents part) → (fold after s.extract (part_contents part)).changes ≡ s.extract.changes ++ part_transactions part
 part_adds (Whole r) s is a = (schedule_ends s r is a).changes
-part_adds (Bare b) s is a = (bare_joins s b (not-true (begins_schedule b) is) a.0).changes
+part_adds (Brief b) s is a = (brief_joins s b (not-true (begins_schedule b) is) a.0).changes
 part_adds (Other i) s is a = refl
 
 parts_add : (parts : List Part) (s : Standing) → list_all is_part parts ≡ true → AdmitsAll s (flat_map part_contents parts) → (fold after s.extract (flat_map part_contents parts)).changes ≡ s.extract.changes ++ flat_map part_transactions parts
@@ -196,4 +196,4 @@ extract_parted store reference hd rows first taken after_all =
     let begun = opened h.content (and_from (not (is_no_opening Idle (identity_for h.content))) (is_sound h.content) (ap not (ap (is_no_opening Idle) sound.0 ∙ h.place)) sound.1) in
     let same = row_moves idle hd h.content (heard_read h) in
     subst (λ (cs : List Change). ComeTo rows cs (progress_of (hd ∷ rows)).changes) (ap (λ (p : Progress). p.changes) same ∙ begun.0)
-    (rows_parted (record s { extract = after_row idle hd }) rows taken (ap (λ (p : Progress). is_reading p.stage) same ∙ begun.1) after_all)
+    (rows_parted (standing_after s hd) rows taken (ap (λ (p : Progress). is_reading p.stage) same ∙ begun.1) after_all)

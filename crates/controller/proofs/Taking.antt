@@ -9,7 +9,7 @@ use Rattle.maps.proofs.Maps.{some_none}
 use Rattle.extract.specs.Progress.{Progress, identity_for, after, after_row}
 use Rattle.extract.specs.Judging.{Standing, is_misplaced, is_no_opening, content_lines}
 use Rattle.controller.specs.Calls.{Open, Row, refusals, refusal_of, told_with, bytes_verdict}
-use Rattle.controller.specs.ScheduleRows.{AreRead, IsTaken, AreTaken}
+use Rattle.controller.specs.ScheduleRows.{AreRead, IsTaken, AreTaken, standing_after}
 use Rattle.controller.proofs.Heard.{HeardAs, heard_as, heard_read, row_moves, heard_told}
 use Rattle.controller.proofs.Fitting.{is_sound}
 use Rattle.controller.proofs.Agreed.{content_sound}
@@ -68,7 +68,7 @@ pub taken_read : (s : Standing) (rows : List (List ℕ)) → AreTaken s rows →
 taken_read s [] t = ([], tt)
 taken_read s (row ∷ rows) t =
     let h = (taken_heard s row t.0).1 in
-    let rest = taken_read (record s { extract = after_row s.extract row }) rows t.1 in
+    let rest = taken_read (standing_after s row) rows t.1 in
     (h.content ∷ rest.0, (heard_read h, rest.1))
 
 -- an HD that open takes

@@ -7,5 +7,5 @@ extract_worked = record {
   opened = refl;
   taken = (refl, (refl, (refl, (refl, (refl, (refl, (refl, (refl, (refl, (refl, tt))))))))));
   complete = refl;
-  changes = refl;
+  transactions = refl;
 }

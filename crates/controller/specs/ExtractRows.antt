@@ -9,15 +9,15 @@ use Rattle.cif.specs.declared.identity.Identity.TheVariants.{TiplocInsert, Tiplo
 use Rattle.schedule.specs.declared.transaction.Change.{Change}
 use Rattle.timetable.specs.Timetables.{Meaning}
 use Rattle.extract.specs.Stages.{is_reading}
-use Rattle.extract.specs.Progress.{idle, after_row, progress_of}
+use Rattle.extract.specs.Progress.{idle, after_row, progress_of, transactions_of}
 use Rattle.extract.specs.Judging.{Standing}
 use Rattle.controller.specs.Calls.{Open, refusal_of}
-use Rattle.controller.specs.ScheduleRows.{ScheduleRows, contents_of, transaction_in, bare_transaction_in, begins_schedule, AreRead, AreTaken}
+use Rattle.controller.specs.ScheduleRows.{ScheduleRows, contents_of, transaction_in, brief_transaction_in, begins_schedule, AreRead, AreTaken, standing_after}
 
 -- a part of an extract after its HD: the rows of a schedule, a BS by itself, or another row by itself
 pub data Part : Type 0 where
   Whole : ScheduleRows → Part
-  Bare : BasicSchedule → Part
+  Brief : BasicSchedule → Part
   Other : Identity → Part
 
 -- the other rows: TI, TA, TD, AA and ZZ
@@ -32,19 +32,19 @@ is_other _ = false
 -- a BS has further rows where it begins a schedule, and stands by itself where it deletes or cancels
 abbrev pub is_part : Part → Bool
 is_part (Whole r) = begins_schedule r.basic
-is_part (Bare b) = not (begins_schedule b)
+is_part (Brief b) = not (begins_schedule b)
 is_part (Other i) = is_other i
 
 -- what the rows of a part are read as
 abbrev pub part_contents : Part → List Content
 part_contents (Whole r) = contents_of r
-part_contents (Bare b) = Schedule b ∷ []
+part_contents (Brief b) = Schedule b ∷ []
 part_contents (Other i) = Unread i ∷ []
 
 -- the transactions of a part: one, or none where it is another row
 abbrev pub part_transactions : Part → List Change
 part_transactions (Whole r) = transaction_in r ∷ []
-part_transactions (Bare b) = bare_transaction_in b ∷ []
+part_transactions (Brief b) = brief_transaction_in b ∷ []
 part_transactions (Other i) = []
 
 -- raw rows are parts, one after another, and with those of all parts the pending transactions grew from some to others
@@ -70,6 +70,6 @@ abbrev pub ExtractComesToParts : Type 0
 ExtractComesToParts =
     (store : Meaning) (reference : List ℕ) (hd : List ℕ) (rows : List (List ℕ))
     → refusal_of (Open hd) (idle_over store reference) 0 ≡ None
-    → AreTaken (record (idle_over store reference) { extract = after_row idle hd }) rows
+    → AreTaken (standing_after (idle_over store reference) hd) rows
     → is_reading (progress_of (hd ∷ rows)).stage ≡ false
-    → ComeTo rows [] (progress_of (hd ∷ rows)).changes
+    → ComeTo rows [] (transactions_of (hd ∷ rows))

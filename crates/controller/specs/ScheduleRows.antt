@@ -87,8 +87,8 @@ transaction_in r =
     (filter is_kept (locations_of r))
 
 -- the transaction of a BS that has no further rows: with blanks and without calls
-abbrev pub bare_transaction_in : BasicSchedule → Change
-bare_transaction_in b = asked_with b b.action two_blanks seven_blanks []
+abbrev pub brief_transaction_in : BasicSchedule → Change
+brief_transaction_in b = asked_with b b.action two_blanks seven_blanks []
 
 -- raw rows are read, one by one, as these contents
 abbrev pub AreRead : List (List ℕ) → List Content → Type 0
@@ -100,10 +100,14 @@ AreRead _ _ = ⊥
 abbrev pub IsTaken : Standing → List ℕ → Type 0
 IsTaken s row = refusal_of (Row row) s 0 ≡ None
 
--- it takes raw rows one after another, over one store and one reference in force
+-- what the next row is judged by: the extract with the row, the same store and the same reference in force
+abbrev pub standing_after : Standing → List ℕ → Standing
+standing_after s row = record s { extract = after_row s.extract row }
+
+-- it takes raw rows one after another
 abbrev pub AreTaken : Standing → List (List ℕ) → Type 0
 AreTaken s [] = ⊤
-AreTaken s (row ∷ rows) = IsTaken s row × AreTaken (record s { extract = after_row s.extract row }) rows
+AreTaken s (row ∷ rows) = IsTaken s row × AreTaken (standing_after s row) rows
 
 -- from one extract to another transactions joined the pending ones, and the stage is between
 pub record Join (joining : List Change) (before after : Progress) : Type 0 where
@@ -128,11 +132,11 @@ ScheduleRowsMakeOne =
     → Join (transaction_in r ∷ []) s.extract (fold after_row s.extract rows)
 
 -- a BS that begins no schedule adds its own transaction at once
-abbrev pub BareRowJoinsAtOnce : Type 0
-BareRowJoinsAtOnce =
+abbrev pub BriefRowJoinsAtOnce : Type 0
+BriefRowJoinsAtOnce =
     (s : Standing) (row : List ℕ) (b : BasicSchedule)
     → begins_schedule b ≡ false → read_in row ≡ Ok (Schedule b) → IsTaken s row
-    → Join (bare_transaction_in b ∷ []) s.extract (after_row s.extract row)
+    → Join (brief_transaction_in b ∷ []) s.extract (after_row s.extract row)
 
 -- any other row adds none, at whatever stage: TI, TA, TD, AA, CR, ZZ, BX, LO, LI, and a BS that begins a schedule
 abbrev pub OtherRowsAddNone : Type 0

@@ -1,16 +1,15 @@
 -- A worked extract: rows that are taken, and the transactions that they come to.
-use Rattle.std.specs.Prelude.{◌≡◌, ℕ, ◌-◌, Bool, true, false, List, [], ◌∷◌, ◌++◌, length, replicate, codes, Some, None, Option}
+use Rattle.std.specs.Prelude.{◌≡◌, ℕ, ◌-◌, true, false, List, [], ◌∷◌, ◌++◌, length, replicate, codes, Some, None, Option}
 use Rattle.forms.specs.declared.letters.Stp.TheVariants.{Permanent, Cancellation}
 use Rattle.cif.specs.declared.content.Location.{Location}
 use Rattle.schedule.specs.declared.record.Record.{Record}
-use Rattle.schedule.specs.declared.transaction.Change.{Change}
 use Rattle.schedule.specs.declared.transaction.Change.TheVariants.{New}
 use Rattle.schedule.specs.Records.{two_blanks, seven_blanks, filler}
 use Rattle.timetable.specs.Timetables.{Meaning}
 use Rattle.extract.specs.declared.stage.Stage.TheVariants.{Complete}
-use Rattle.extract.specs.Progress.{idle, after_row, progress_of}
+use Rattle.extract.specs.Progress.{progress_of, transactions_of}
 use Rattle.controller.specs.Calls.{Open, refusal_of}
-use Rattle.controller.specs.ScheduleRows.{AreTaken}
+use Rattle.controller.specs.ScheduleRows.{AreTaken, standing_after}
 use Rattle.controller.specs.ExtractRows.{idle_over}
 
 -- a row of 80 bytes: a text, and blanks up to what stands at its end
@@ -21,8 +20,8 @@ row_of_text text end = text ++ replicate (80 - length text - length end) 32 ++ e
 abbrev pub worked_hd : List ℕ
 worked_hd = row_of_text (codes "HD                              DFABCDE       F") []
 
--- a new permanent schedule of C12345 with operator VT: from EUSTON at 0900, through WATFDJ without a public time, by RUGBY from 1001 to 1003,
--- to CREWE at 1040; its cancellation on 240306; and ZZ
+-- a new permanent schedule of C12345 with operator VT, from EUSTON at 0900 through WATFDJ, where it has no public time, and RUGBY, from
+-- 1001 to 1003, to CREWE at 1040; a TI; its cancellation on 240306; and ZZ
 abbrev pub worked_rows : List (List ℕ)
 worked_rows =
     row_of_text (codes "BSNC123452312112405311111100    1A23") (codes "P")
@@ -53,10 +52,10 @@ worked_schedule =
       operator = codes "VT";
       destination = codes "CREWE  ";
       calls =
-        worked_call (codes "EUSTON ") None (Some 540) (codes "1  ")
-        ∷ worked_call (codes "RUGBY  ") (Some 601) (Some 603) (codes "2  ")
-        ∷ worked_call (codes "CREWE  ") (Some 640) None (codes "5  ")
-        ∷ replicate 45 filler;
+          worked_call (codes "EUSTON ") None (Some 540) (codes "1  ")
+          ∷ worked_call (codes "RUGBY  ") (Some 601) (Some 603) (codes "2  ")
+          ∷ worked_call (codes "CREWE  ") (Some 640) None (codes "5  ")
+          ∷ replicate 45 filler;
       count = 3;
     }
 
@@ -81,6 +80,6 @@ worked_store = record { map = []; capacity = 2 }
 -- open takes the HD and row the other rows; the extract is then complete, and has just these two transactions
 pub record WorkedExtract : Type 0 where
   pub opened : refusal_of (Open worked_hd) (idle_over worked_store seven_blanks) 0 ≡ None
-  pub taken : AreTaken (record (idle_over worked_store seven_blanks) { extract = after_row idle worked_hd }) worked_rows
+  pub taken : AreTaken (standing_after (idle_over worked_store seven_blanks) worked_hd) worked_rows
   pub complete : (progress_of (worked_hd ∷ worked_rows)).stage ≡ Complete
-  pub changes : (progress_of (worked_hd ∷ worked_rows)).changes ≡ New worked_schedule ∷ New worked_cancellation ∷ []
+  pub transactions : transactions_of (worked_hd ∷ worked_rows) ≡ New worked_schedule ∷ New worked_cancellation ∷ []

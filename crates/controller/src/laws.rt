@@ -1,6 +1,6 @@
 // Laws of extracts and of the table of refusals.
 ghost use Rattle.controller.specs.Laws.{OverlayIsOfRows, PendingMayBeDone, PendingFits, UppermostIsTold, ReadFromBsToLt, CallsInRowOrder};
-ghost use Rattle.controller.specs.ScheduleRows.{ScheduleRowsMakeOne, BareRowJoinsAtOnce, OtherRowsAddNone};
+ghost use Rattle.controller.specs.ScheduleRows.{ScheduleRowsMakeOne, BriefRowJoinsAtOnce, OtherRowsAddNone};
 ghost use Rattle.controller.specs.ExtractRows.{RowsComeToParts, ExtractComesToParts};
 ghost use Rattle.controller.specs.WorkedExtract.{WorkedExtract};
 
@@ -40,8 +40,8 @@ pub fn schedule_rows_make_one_transaction()
 {}
 
 /// A BS that deletes or cancels adds its own transaction at once.
-pub fn bare_row_joins_at_once()
-    ensures { BareRowJoinsAtOnce }
+pub fn brief_row_joins_at_once()
+    ensures { BriefRowJoinsAtOnce }
 {}
 
 /// Any other row adds none.
