@@ -7,6 +7,7 @@ pub mod Taking
 pub mod Building
 pub mod Parting
 pub mod Worked
+pub mod Ledgered
 pub mod Called
 pub mod Lawful
 pub mod Kept

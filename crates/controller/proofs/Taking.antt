@@ -14,7 +14,7 @@ use Rattle.controller.proofs.Heard.{HeardAs, heard_as, heard_read, row_moves, he
 use Rattle.controller.proofs.Fitting.{is_sound}
 use Rattle.controller.proofs.Agreed.{content_sound}
 
-none_mapped : {X Y : Type 0} (f : X → Y) (o : Option X) → option_map f o ≡ None → o ≡ None
+pub none_mapped : {X Y : Type 0} (f : X → Y) (o : Option X) → option_map f o ≡ None → o ≡ None
 none_mapped f (Some x) h = absurd (some_none _ h)
 none_mapped f None h = refl
 

@@ -8,3 +8,4 @@ pub mod ExtractRows
 pub mod WorkedExtract
 pub mod Ledger
 pub mod Keeping
+pub mod LedgerRows

@@ -3,6 +3,7 @@ ghost use Rattle.controller.specs.Laws.{OverlayIsOfRows, PendingMayBeDone, Pendi
 ghost use Rattle.controller.specs.ScheduleRows.{ScheduleRowsMakeOne, BriefRowJoinsAtOnce, OtherRowsAddNone};
 ghost use Rattle.controller.specs.ExtractRows.{RowsComeToParts, ExtractComesToParts};
 ghost use Rattle.controller.specs.WorkedExtract.{WorkedExtract};
+ghost use Rattle.controller.specs.LedgerRows.{LedgerRowsAreTaken};
 
 /// The overlay's map is the store's with the transactions of the rows done in order, whatever the store.
 pub fn overlay_is_of_rows()
@@ -62,4 +63,9 @@ pub fn extract_comes_to_parts()
 /// A worked extract is taken row by row, and comes to its two transactions.
 pub fn worked_extract()
     ensures { WorkedExtract }
+{}
+
+/// The rows of a ledger were taken, and what is confirmed are the transactions of their parts.
+pub fn ledger_rows_are_taken()
+    ensures { LedgerRowsAreTaken }
 {}

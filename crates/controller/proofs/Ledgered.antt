@@ -1,0 +1,172 @@
+-- The rows of a ledger were taken.
+use Rattle.std.proofs.Common.{◌≡◌, ℕ, Bool, true, false, cond, not, ◌&&◌, List, [], ◌∷◌, ◌++◌, Some, None, Option, MatchOption, fold, unwrap_or, sym, refl, ap, ◌∙◌, subst}
+use Rattle.std.proofs.lemmas.Bool.{true≢false, and_from, and_parts, not-true, not-false}
+use Rattle.cif.specs.declared.content.Content.{Content}
+use Rattle.cif.specs.declared.content.Content.TheVariants.{Header, Unread}
+use Rattle.cif.specs.declared.identity.Identity.{Identity}
+use Rattle.cif.specs.declared.identity.Identity.TheVariants.{Header as IsHeader, ChangeEnRoute}
+use Rattle.cif.specs.Refusals.{TableLine, uppermost, fault_at}
+use Rattle.cif.specs.declared.refusal.Refusal.TheVariants.{OutOfPlace}
+use Rattle.board.specs.Turning.{slot_lines}
+use Rattle.cif.specs.declared.refusal.ColumnFault.{ColumnFault}
+use Rattle.maps.proofs.Maps.{some_none}
+use Rattle.timetable.specs.Timetables.{Meaning}
+use Rattle.extract.specs.declared.stage.Stage.{Stage}
+use Rattle.extract.specs.declared.stage.Stage.TheVariants.{Idle, Between, Begun, Complete}
+use Rattle.extract.specs.Stages.{Step, is_stage, is_identity, steps, step_in, next_stage, is_reading}
+use Rattle.extract.specs.Progress.{Progress, identity_for, brief_in, idle, after, after_row, progress_of, transactions_of}
+use Rattle.extract.specs.Judging.{Standing, is_misplaced, is_no_opening}
+use Rattle.controller.specs.declared.fault.ExtractFault.{ExtractFault}
+use Rattle.controller.specs.declared.answer.Answer.{Answer}
+use Rattle.controller.specs.declared.answer.Answer.TheVariants.{Refused}
+use Rattle.controller.specs.Calls.{Call, Open, Row, Confirm, Abandon, Turn, Tell, Tally, refusal_of, refusals, told_with}
+use Rattle.controller.specs.Ledger.{Ledger, ledger_after, ledger_with, store_for, standing_of, Accepts, AnswerOf, is_accepted}
+use Rattle.controller.specs.ScheduleRows.{IsTaken, AreTaken, standing_after}
+use Rattle.controller.specs.ExtractRows.{ComeTo, idle_over}
+use Rattle.controller.specs.LedgerRows.{TakenFrom, RowsAreTaken, AreWhole, LedgerRowsAreTaken}
+use Rattle.controller.proofs.Fitting.{is_sound}
+use Rattle.controller.proofs.Heard.{heard_read, row_moves}
+use Rattle.controller.proofs.Agreed.{content_sound}
+use Rattle.controller.proofs.Taking.{none_mapped, taken_heard, opening_heard}
+use Rattle.controller.proofs.Parting.{extract_parted}
+
+-- whether no extract is open
+abbrev is_idle : Stage → Bool
+is_idle Idle = true
+is_idle _ = false
+
+-- no row leads back to idle
+abbrev none_idle : List Step → Bool
+none_idle [] = true
+none_idle (t ∷ ts) = not (is_idle t.2) && none_idle ts
+
+stays_open : (ts : List Step) (st from : Stage) (i : Identity) → none_idle ts ≡ true → is_idle st ≡ false → is_idle (unwrap_or (step_in ts from i) st) ≡ false
+stays_open [] st from i h o = o
+stays_open (t ∷ ts) st from i h o =
+    let both = and_parts (not (is_idle t.2)) (none_idle ts) h in
+    of (is_stage t.0 from && is_identity t.1 i) (not-true (is_idle t.2) both.0) (stays_open ts st from i both.1 o)
+  where
+    of : (found : Bool) → is_idle t.2 ≡ false → is_idle (unwrap_or (step_in ts from i) st) ≡ false → is_idle (unwrap_or (cond found (Some t.2) (step_in ts from i)) st) ≡ false
+    of true p q = p
+    of false p q = q
+
+moves_open : (st : Stage) (i : Identity) (brief : Bool) → is_idle st ≡ false → is_idle (unwrap_or (next_stage st i brief) st) ≡ false
+moves_open st i true o = stays_open (steps Between) st st i refl o
+moves_open st i false o = stays_open (steps Begun) st st i refl o
+
+-- once an extract is open, it is so after each row that is taken
+row_open : (s : Standing) (row : List ℕ) → is_idle s.extract.stage ≡ false → IsTaken s row → is_idle (after_row s.extract row).stage ≡ false
+row_open s row o t =
+    let h = (taken_heard s row t).1 in
+    ap (λ (p : Progress). is_idle p.stage) (row_moves s.extract row h.content (heard_read h)) ∙ moves_open s.extract.stage (identity_for h.content) (brief_in h.content) o
+
+rows_open : (s : Standing) (rows : List (List ℕ)) → is_idle s.extract.stage ≡ false → AreTaken s rows → is_idle (fold after_row s.extract rows).stage ≡ false
+rows_open s [] o t = o
+rows_open s (row ∷ rows) o t = rows_open (standing_after s row) rows (row_open s row o t.0) t.1
+
+-- only an HD is in place for open, and only when idle
+opens_idle : (st : Stage) (i : Identity) → is_no_opening st i ≡ false → is_idle st ≡ true
+opens_idle Idle i h = refl
+opens_idle st i h = absurd (true≢false h)
+
+opens_between : (c : Content) → (not (is_no_opening Idle (identity_for c)) && is_sound c) ≡ true → is_idle (after idle c).stage ≡ false
+opens_between (Header h) e = refl
+opens_between (Unread ChangeEnRoute) e = absurd (true≢false (sym e))
+opens_between c e = absurd (true≢false (sym e))
+
+module _ (s : Standing) (hd : List ℕ) (taken : refusal_of (Open hd) s 0 ≡ None) where
+  was_idle : is_idle s.extract.stage ≡ true
+  was_idle = let h = (opening_heard s hd taken).1 in opens_idle s.extract.stage h.identity h.place
+
+opened_open : (s : Standing) (hd : List ℕ) → s.extract ≡ idle → refusal_of (Open hd) s 0 ≡ None → is_idle (after_row idle hd).stage ≡ false
+opened_open s hd at taken =
+    let h = (opening_heard s hd taken).1 in
+    let sound = content_sound h.identity hd h.content h.read in
+    let placed : is_no_opening Idle (identity_for h.content) ≡ false = ap (is_no_opening Idle) sound.0 ∙ (ap (λ (p : Progress). is_no_opening p.stage h.identity) (sym at) ∙ h.place) in
+    ap (λ (p : Progress). is_idle p.stage) (row_moves idle hd h.content (heard_read h)) ∙ opens_between h.content (and_from (not (is_no_opening Idle (identity_for h.content))) (is_sound h.content) (ap not placed) sound.1)
+
+-- no row is in place for row when idle
+idle_takes : (i : Identity) → is_misplaced Idle i ≡ true
+idle_takes IsHeader = refl
+idle_takes i = refl
+
+row_not_idle : (s : Standing) (row : List ℕ) → IsTaken s row → s.extract.stage ≡ Idle → ⊥
+row_not_idle s row t at =
+    let h = (taken_heard s row t).1 in
+    true≢false (sym (idle_takes h.identity) ∙ (ap (λ st. is_misplaced st h.identity) (sym at) ∙ h.place))
+
+-- one row more that is taken
+taken_more : (s : Standing) (rows : List (List ℕ)) (row : List ℕ) → AreTaken s rows → IsTaken (record s { extract = fold after_row s.extract rows }) row → AreTaken s (rows ++ row ∷ [])
+taken_more s [] row t r = (r, tt)
+taken_more s (x ∷ xs) row t r = (t.0, taken_more (standing_after s x) xs row t.1 r)
+
+-- the rows of a ledger are none where its extract is idle
+module _ (store : Meaning) (reference : List ℕ) where
+  abbrev from : Standing
+  from = idle_over store reference
+
+  rows_idle : (rows : List (List ℕ)) → TakenFrom from rows → is_idle (progress_of rows).stage ≡ true → rows ≡ []
+  rows_idle [] t i = refl
+  rows_idle (hd ∷ rows) t i = absurd (true≢false (sym i ∙ rows_open (standing_after from hd) rows (opened_open from hd refl t.0) t.1))
+
+  open_more : (rows : List (List ℕ)) (hd : List ℕ) → TakenFrom from rows → refusal_of (Open hd) (record from { extract = progress_of rows }) 0 ≡ None → TakenFrom from (rows ++ hd ∷ [])
+  open_more [] hd t r = (r, tt)
+  open_more (x ∷ xs) hd t r = absurd (true≢false (sym (was_idle (record from { extract = progress_of (x ∷ xs) }) hd r) ∙ rows_open (standing_after from x) xs (opened_open from x refl t.0) t.1))
+
+  row_more : (rows : List (List ℕ)) (row : List ℕ) → TakenFrom from rows → IsTaken (record from { extract = progress_of rows }) row → TakenFrom from (rows ++ row ∷ [])
+  row_more [] row t r = absurd (row_not_idle from row r refl)
+  row_more (x ∷ xs) row t r = (t.0, taken_more (standing_after from x) xs row t.1 r)
+
+-- an accepted call leaves the rows taken
+accepted_keeps : (ℓ : Ledger) (capacity slots : ℕ) (call : Call) → refusal_of call (standing_of ℓ capacity) slots ≡ None → RowsAreTaken ℓ capacity → RowsAreTaken (ledger_with ℓ call) capacity
+accepted_keeps ℓ capacity slots (Open row) r t = open_more (store_for ℓ capacity) ℓ.reference ℓ.rows row t r
+accepted_keeps ℓ capacity slots (Row row) r t = row_more (store_for ℓ capacity) ℓ.reference ℓ.rows row t r
+accepted_keeps ℓ capacity slots Confirm r t = tt
+accepted_keeps ℓ capacity slots Abandon r t = tt
+accepted_keeps ℓ capacity slots (Turn station day) r t = t
+accepted_keeps ℓ capacity slots (Tell place) r t = t
+accepted_keeps ℓ capacity slots Tally r t = t
+
+-- and a call that is answered as the ledger has it
+answered_keeps : (ℓ : Ledger) (capacity slots : ℕ) (call : Call) (answer : Answer) → AnswerOf ℓ capacity slots call answer → RowsAreTaken ℓ capacity → RowsAreTaken (ledger_after ℓ call (is_accepted answer)) capacity
+answered_keeps ℓ capacity slots call answer a t = of (refusal_of call (standing_of ℓ capacity) slots) refl a
+  where
+    either : (accepted : Bool) → RowsAreTaken (ledger_with ℓ call) capacity → RowsAreTaken (ledger_after ℓ call accepted) capacity
+    either true k = k
+    either false k = t
+
+    of : (o : Option ExtractFault) → refusal_of call (standing_of ℓ capacity) slots ≡ o → MatchOption o (Accepts ℓ call answer) (λ f. answer ≡ Refused f) → RowsAreTaken (ledger_after ℓ call (is_accepted answer)) capacity
+    of None e k = either (is_accepted answer) (accepted_keeps ℓ capacity slots call e t)
+    of (Some f) e k = subst (λ (x : Bool). RowsAreTaken (ledger_after ℓ call x) capacity) (sym (ap is_accepted k)) t
+
+-- where no line of a table holds, its first does not
+first_free : (holds : Bool) (f : ColumnFault) (ls : List TableLine) → uppermost ((f, holds) ∷ ls) ≡ None → holds ≡ false
+first_free true f ls h = absurd (some_none _ h)
+first_free false f ls h = refl
+
+-- a confirmation that is accepted finds the extract complete
+complete_from : (s : Standing) (slots : ℕ) → refusal_of Confirm s slots ≡ None → is_stage s.extract.stage Complete ≡ true
+complete_from s slots r =
+    let none = none_mapped (told_with Confirm s) (uppermost (refusals Confirm s slots)) r in
+    not-false (is_stage s.extract.stage Complete) (first_free (not (is_stage s.extract.stage Complete)) (fault_at OutOfPlace 0) (slot_lines slots s.store.capacity) none)
+
+complete_whole : (st : Stage) → is_stage st Complete ≡ true → (is_reading st ≡ false) × (is_idle st ≡ false)
+complete_whole Complete h = (refl, refl)
+complete_whole st h = absurd (true≢false (sym h))
+
+confirmed_whole : (ℓ : Ledger) (capacity slots : ℕ) → refusal_of Confirm (standing_of ℓ capacity) slots ≡ None → RowsAreTaken ℓ capacity → AreWhole ℓ
+confirmed_whole ℓ capacity slots r t = of ℓ.rows refl t (complete_whole (progress_of ℓ.rows).stage (complete_from (standing_of ℓ capacity) slots r))
+  where
+    of : (rows : List (List ℕ)) → ℓ.rows ≡ rows → TakenFrom (idle_over (store_for ℓ capacity) ℓ.reference) rows → (is_reading (progress_of ℓ.rows).stage ≡ false) × (is_idle (progress_of ℓ.rows).stage ≡ false) → AreWhole ℓ
+    of [] e t w = absurd (true≢false (ap (λ rows. is_idle (progress_of rows).stage) (sym e) ∙ w.1))
+    of (hd ∷ rest) e t w = record {
+      hd = hd;
+      rest = rest;
+      rows = e;
+      come =
+          subst (λ (rows : List (List ℕ)). ComeTo rest [] (transactions_of rows)) (sym e)
+          (extract_parted (store_for ℓ capacity) ℓ.reference hd rest t.0 t.1 (ap (λ rows. is_reading (progress_of rows).stage) (sym e) ∙ w.0));
+    }
+
+pub ledgered : LedgerRowsAreTaken
+ledgered = record { new = λ start capacity. tt; kept = answered_keeps; confirmed = confirmed_whole }
