@@ -20,12 +20,13 @@ use Rattle.schedule.specs.declared.transaction.Change.TheVariants.{New, Revise}
 use Rattle.schedule.specs.Records.{is_cancellation, two_blanks, seven_blanks, filler}
 use Rattle.schedule.specs.Building.{is_kept, adds_call, with_call, with_operator, with_destination, call_lines, bringing, bringing_lines}
 use Rattle.extract.specs.declared.stage.Stage.{Stage}
-use Rattle.extract.specs.declared.stage.Stage.TheVariants.{Idle, Between, Begun, Extra, Running, Changed, Complete}
+use Rattle.extract.specs.declared.stage.Stage.TheVariants.{Begun, Extra, Running, Changed}
 use Rattle.extract.specs.Stages.{next_stage}
 use Rattle.extract.specs.Progress.{Progress, change_by, is_deletion, is_brief, after}
 use Rattle.extract.specs.Judging.{Standing}
 use Rattle.extract.proofs.Lines.{none_first}
 use Rattle.controller.specs.ScheduleRows.{WayRow, LI, CR, way_content, way_locations, operator_contents, ScheduleRows, contents_of, locations_of, schedule_with, asked_with, transaction_in, brief_transaction_in, begins_schedule, joins_at, Join, ScheduleRowsMakeOne, BriefRowJoinsAtOnce, OtherRowsAddNone}
+use Rattle.controller.proofs.Stepping.{only_between}
 use Rattle.controller.proofs.Heard.{row_moves}
 use Rattle.controller.proofs.Taking.{Admits, AdmitsAll, moved, taken_admits, taken_all}
 
@@ -168,16 +169,6 @@ brief_is b = of (is_deletion b.action) (is_cancellation b.stp)
     of true cancels = refl
     of false true = refl
     of false false = refl
-
--- a BS is taken between two schedules only
-only_between : (st : Stage) → is_missing (next_stage st IsSchedule false) ≡ false → st ≡ Between
-only_between Idle h = absurd (true≢false h)
-only_between Between h = refl
-only_between Begun h = absurd (true≢false h)
-only_between Extra h = absurd (true≢false h)
-only_between Running h = absurd (true≢false h)
-only_between Changed h = absurd (true≢false h)
-only_between Complete h = absurd (true≢false h)
 
 brings_new : Brings New
 brings_new = record { steps = λ f r. refl; lines = λ r l. refl }

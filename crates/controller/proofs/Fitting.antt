@@ -30,7 +30,7 @@ use Rattle.extract.specs.Progress.{Progress, change_by, is_brief, identity_for, 
 use Rattle.extract.specs.Judging.{Standing, overlay_in, asks_new, is_there, past_rows, past_transactions, change_lines, content_lines}
 use Rattle.controller.specs.Laws.{is_passing}
 use Rattle.controller.specs.ExtractRows.{is_other}
-use Rattle.controller.proofs.Stepping.{reads_on}
+use Rattle.controller.proofs.Stepping.{reads_on, only_between}
 
 -- whether a transaction may be done depends on the key of its schedule, which is one
 same_may : (t : Meaning) (c : Change) (f : Record → Record) → ((r : Record) → key_of (f r) ≡ key_of r) → is_lawful (bringing f c) ≡ true → MayBeDone t c → MayBeDone t (bringing f c)
@@ -141,9 +141,6 @@ module _ (s : Standing) (is : IsMap s.store.map) (within : IsWithinCapacity s.st
     pending = each_push s.store cs (ended_by l s.extract.draft) may.pending (ended_may (overlay_in s) l s.extract.draft lawful (may.reading reading));
     reading = λ r. absurd (true≢false (sym (sym (ap is_reading next) ∙ r)));
   }
-
-  only_between : (st : Stage) → is_missing (next_stage st IsSchedule false) ≡ false → st ≡ Between
-  only_between st h = grind (arith, nat_tests)
 
   ends_reading : (st : Stage) → is_missing (next_stage st IsTerminus false) ≡ false → is_reading st ≡ true
   ends_reading st h = grind (arith, nat_tests)

@@ -1,10 +1,8 @@
 -- The rows of a ledger were taken.
 use Rattle.std.proofs.Common.{◌≡◌, ℕ, Bool, true, false, cond, not, ◌&&◌, List, [], ◌∷◌, ◌++◌, Some, None, Option, MatchOption, fold, unwrap_or, sym, refl, ap, ◌∙◌, subst}
-use Rattle.std.proofs.lemmas.Bool.{true≢false, and_from, and_parts, not-true, not-false}
-use Rattle.cif.specs.declared.content.Content.{Content}
-use Rattle.cif.specs.declared.content.Content.TheVariants.{Header, Unread}
+use Rattle.std.proofs.lemmas.Bool.{true≢false, and_parts, not-true, not-false}
 use Rattle.cif.specs.declared.identity.Identity.{Identity}
-use Rattle.cif.specs.declared.identity.Identity.TheVariants.{Header as IsHeader, ChangeEnRoute}
+use Rattle.cif.specs.declared.identity.Identity.TheVariants.{Header as IsHeader}
 use Rattle.cif.specs.Refusals.{TableLine, uppermost, fault_at}
 use Rattle.cif.specs.declared.refusal.Refusal.TheVariants.{OutOfPlace}
 use Rattle.board.specs.Turning.{slot_lines}
@@ -14,7 +12,7 @@ use Rattle.timetable.specs.Timetables.{Meaning}
 use Rattle.extract.specs.declared.stage.Stage.{Stage}
 use Rattle.extract.specs.declared.stage.Stage.TheVariants.{Idle, Between, Begun, Complete}
 use Rattle.extract.specs.Stages.{Step, is_stage, is_identity, steps, step_in, next_stage, is_reading}
-use Rattle.extract.specs.Progress.{Progress, identity_for, brief_in, idle, after, after_row, progress_of, transactions_of}
+use Rattle.extract.specs.Progress.{Progress, identity_for, brief_in, after_row, progress_of, transactions_of}
 use Rattle.extract.specs.Judging.{Standing, is_misplaced, is_no_opening}
 use Rattle.controller.specs.declared.fault.ExtractFault.{ExtractFault}
 use Rattle.controller.specs.declared.answer.Answer.{Answer}
@@ -24,11 +22,9 @@ use Rattle.controller.specs.Ledger.{Ledger, ledger_after, ledger_with, store_for
 use Rattle.controller.specs.ScheduleRows.{IsTaken, AreTaken, standing_after}
 use Rattle.controller.specs.ExtractRows.{ComeTo, idle_over}
 use Rattle.controller.specs.LedgerRows.{TakenFrom, RowsAreTaken, AreWhole, LedgerRowsAreTaken}
-use Rattle.controller.proofs.Fitting.{is_sound}
 use Rattle.controller.proofs.Heard.{heard_read, row_moves}
-use Rattle.controller.proofs.Agreed.{content_sound}
 use Rattle.controller.proofs.Taking.{none_mapped, taken_heard, opening_heard}
-use Rattle.controller.proofs.Parting.{extract_parted}
+use Rattle.controller.proofs.Parting.{opened_by, extract_parted}
 
 -- whether no extract is open
 abbrev is_idle : Stage → Bool
@@ -69,21 +65,8 @@ opens_idle : (st : Stage) (i : Identity) → is_no_opening st i ≡ false → is
 opens_idle Idle i h = refl
 opens_idle st i h = absurd (true≢false h)
 
-opens_between : (c : Content) → (not (is_no_opening Idle (identity_for c)) && is_sound c) ≡ true → is_idle (after idle c).stage ≡ false
-opens_between (Header h) e = refl
-opens_between (Unread ChangeEnRoute) e = absurd (true≢false (sym e))
-opens_between c e = absurd (true≢false (sym e))
-
-module _ (s : Standing) (hd : List ℕ) (taken : refusal_of (Open hd) s 0 ≡ None) where
-  was_idle : is_idle s.extract.stage ≡ true
-  was_idle = let h = (opening_heard s hd taken).1 in opens_idle s.extract.stage h.identity h.place
-
-opened_open : (s : Standing) (hd : List ℕ) → s.extract ≡ idle → refusal_of (Open hd) s 0 ≡ None → is_idle (after_row idle hd).stage ≡ false
-opened_open s hd at taken =
-    let h = (opening_heard s hd taken).1 in
-    let sound = content_sound h.identity hd h.content h.read in
-    let placed : is_no_opening Idle (identity_for h.content) ≡ false = ap (is_no_opening Idle) sound.0 ∙ (ap (λ (p : Progress). is_no_opening p.stage h.identity) (sym at) ∙ h.place) in
-    ap (λ (p : Progress). is_idle p.stage) (row_moves idle hd h.content (heard_read h)) ∙ opens_between h.content (and_from (not (is_no_opening Idle (identity_for h.content))) (is_sound h.content) (ap not placed) sound.1)
+was_idle : (s : Standing) (hd : List ℕ) → refusal_of (Open hd) s 0 ≡ None → is_idle s.extract.stage ≡ true
+was_idle s hd taken = let h = (opening_heard s hd taken).1 in opens_idle s.extract.stage h.identity h.place
 
 -- no row is in place for row when idle
 idle_takes : (i : Identity) → is_misplaced Idle i ≡ true
@@ -100,18 +83,14 @@ taken_more : (s : Standing) (rows : List (List ℕ)) (row : List ℕ) → AreTak
 taken_more s [] row t r = (r, tt)
 taken_more s (x ∷ xs) row t r = (t.0, taken_more (standing_after s x) xs row t.1 r)
 
--- the rows of a ledger are none where its extract is idle
+-- one row more, over a store and a reference
 module _ (store : Meaning) (reference : List ℕ) where
   abbrev from : Standing
   from = idle_over store reference
 
-  rows_idle : (rows : List (List ℕ)) → TakenFrom from rows → is_idle (progress_of rows).stage ≡ true → rows ≡ []
-  rows_idle [] t i = refl
-  rows_idle (hd ∷ rows) t i = absurd (true≢false (sym i ∙ rows_open (standing_after from hd) rows (opened_open from hd refl t.0) t.1))
-
   open_more : (rows : List (List ℕ)) (hd : List ℕ) → TakenFrom from rows → refusal_of (Open hd) (record from { extract = progress_of rows }) 0 ≡ None → TakenFrom from (rows ++ hd ∷ [])
   open_more [] hd t r = (r, tt)
-  open_more (x ∷ xs) hd t r = absurd (true≢false (sym (was_idle (record from { extract = progress_of (x ∷ xs) }) hd r) ∙ rows_open (standing_after from x) xs (opened_open from x refl t.0) t.1))
+  open_more (x ∷ xs) hd t r = absurd (true≢false (sym (was_idle (record from { extract = progress_of (x ∷ xs) }) hd r) ∙ rows_open (standing_after from x) xs (ap is_idle (opened_by store reference x t.0).1) t.1))
 
   row_more : (rows : List (List ℕ)) (row : List ℕ) → TakenFrom from rows → IsTaken (record from { extract = progress_of rows }) row → TakenFrom from (rows ++ row ∷ [])
   row_more [] row t r = absurd (row_not_idle from row r refl)

@@ -9,11 +9,13 @@ use Rattle.cif.specs.declared.content.Content.{Content}
 use Rattle.cif.specs.declared.content.Content.TheVariants.{Header, Schedule, Operator, Origin, Intermediate, Terminus, Unread}
 use Rattle.cif.specs.declared.identity.Identity.TheVariants.{ChangeEnRoute, TiplocInsert, TiplocAmend, TiplocDelete, Association, Trailer}
 use Rattle.schedule.specs.declared.transaction.Change.{Change}
+use Rattle.timetable.specs.Timetables.{Meaning}
 use Rattle.extract.specs.declared.stage.Stage.{Stage}
 use Rattle.extract.specs.declared.stage.Stage.TheVariants.{Idle, Between, Begun, Extra, Running, Changed, Complete}
 use Rattle.extract.specs.Stages.{next_stage, is_reading}
-use Rattle.extract.specs.Progress.{Progress, identity_for, brief_in, idle, after, progress_of}
+use Rattle.extract.specs.Progress.{Progress, identity_for, brief_in, idle, after, after_row, progress_of}
 use Rattle.extract.specs.Judging.{Standing, is_misplaced, is_no_opening}
+use Rattle.controller.specs.Calls.{Open, refusal_of}
 use Rattle.controller.specs.ScheduleRows.{WayRow, LI, CR, way_content, operator_contents, ScheduleRows, begins_schedule, AreRead, standing_after}
 use Rattle.controller.specs.ExtractRows.{Part, Whole, Brief, Other, is_part, part_contents, part_transactions, ComeTo, RowsComeToParts, idle_over, ExtractComesToParts}
 use Rattle.controller.proofs.Fitting.{is_sound}
@@ -182,18 +184,22 @@ rows_parted s rows taken before after_all =
           ∙ parts_add cut.parts s cut.each (subst (λ (cs : List Content). AdmitsAll s cs) cut.are t.0));
     }
 
--- an HD opens an extract of which nothing is pending and no schedule half read
-opened : (c : Content) → (not (is_no_opening Idle (identity_for c)) && is_sound c) ≡ true → ((after idle c).changes ≡ []) × (is_reading (after idle c).stage ≡ false)
+-- an HD opens an extract of which nothing is pending
+opened : (c : Content) → (not (is_no_opening Idle (identity_for c)) && is_sound c) ≡ true → ((after idle c).changes ≡ []) × ((after idle c).stage ≡ Between)
 opened (Header h) e = (refl, refl)
 opened (Unread ChangeEnRoute) e = absurd (true≢false (sym e))
 opened c e = absurd (true≢false (sym e))
 
-pub extract_parted : ExtractComesToParts
-extract_parted store reference hd rows first taken after_all =
-    let s = idle_over store reference in
-    let h = (opening_heard s hd first).1 in
+pub opened_by : (store : Meaning) (reference hd : List ℕ) → refusal_of (Open hd) (idle_over store reference) 0 ≡ None → ((after_row idle hd).changes ≡ []) × ((after_row idle hd).stage ≡ Between)
+opened_by store reference hd taken =
+    let h = (opening_heard (idle_over store reference) hd taken).1 in
     let sound = content_sound h.identity hd h.content h.read in
     let begun = opened h.content (and_from (not (is_no_opening Idle (identity_for h.content))) (is_sound h.content) (ap not (ap (is_no_opening Idle) sound.0 ∙ h.place)) sound.1) in
     let same = row_moves idle hd h.content (heard_read h) in
-    subst (λ (cs : List Change). ComeTo rows cs (progress_of (hd ∷ rows)).changes) (ap (λ (p : Progress). p.changes) same ∙ begun.0)
-    (rows_parted (standing_after s hd) rows taken (ap (λ (p : Progress). is_reading p.stage) same ∙ begun.1) after_all)
+    (ap (λ (p : Progress). p.changes) same ∙ begun.0, ap (λ (p : Progress). p.stage) same ∙ begun.1)
+
+pub extract_parted : ExtractComesToParts
+extract_parted store reference hd rows first taken after_all =
+    let o = opened_by store reference hd first in
+    subst (λ (cs : List Change). ComeTo rows cs (progress_of (hd ∷ rows)).changes) o.0
+    (rows_parted (standing_after (idle_over store reference) hd) rows taken (ap is_reading o.1) after_all)
