@@ -1,6 +1,7 @@
 -- The rows of a ledger were taken.
-use Rattle.std.proofs.Common.{◌≡◌, ℕ, Bool, true, false, cond, not, ◌&&◌, List, [], ◌∷◌, ◌++◌, Some, None, Option, MatchOption, fold, unwrap_or, sym, refl, ap, ◌∙◌, subst}
-use Rattle.std.proofs.lemmas.Bool.{true≢false, and_parts, not-true, not-false}
+use Rattle.std.proofs.Common.{◌≡◌, ℕ, Bool, true, false, cond, not, ◌&&◌, List, [], ◌∷◌, ◌++◌, Some, None, Option, MatchOption, fold, unwrap_or, sym, refl, ap, ◌∙◌, subst, arith}
+use Rattle.std.proofs.lemmas.Bool.{true≢false, not-false}
+use Rattle.std.proofs.lemmas.Bool.Decides.{nat_tests}
 use Rattle.cif.specs.declared.identity.Identity.{Identity}
 use Rattle.cif.specs.declared.identity.Identity.TheVariants.{Header as IsHeader}
 use Rattle.cif.specs.Refusals.{TableLine, uppermost, fault_at}
@@ -11,7 +12,7 @@ use Rattle.maps.proofs.Maps.{some_none}
 use Rattle.timetable.specs.Timetables.{Meaning}
 use Rattle.extract.specs.declared.stage.Stage.{Stage}
 use Rattle.extract.specs.declared.stage.Stage.TheVariants.{Idle, Between, Begun, Complete}
-use Rattle.extract.specs.Stages.{Step, is_stage, is_identity, steps, step_in, next_stage, is_reading}
+use Rattle.extract.specs.Stages.{is_idle, is_complete, next_stage, is_reading}
 use Rattle.extract.specs.Progress.{Progress, identity_for, brief_in, after_row, progress_of, transactions_of}
 use Rattle.extract.specs.Judging.{Standing, is_misplaced, is_no_opening}
 use Rattle.controller.specs.declared.fault.ExtractFault.{ExtractFault}
@@ -26,29 +27,10 @@ use Rattle.controller.proofs.Heard.{heard_read, row_moves}
 use Rattle.controller.proofs.Taking.{none_mapped, taken_heard, opening_heard}
 use Rattle.controller.proofs.Parting.{opened_by, extract_parted}
 
--- whether no extract is open
-abbrev is_idle : Stage → Bool
-is_idle Idle = true
-is_idle _ = false
-
 -- no row leads back to idle
-abbrev none_idle : List Step → Bool
-none_idle [] = true
-none_idle (t ∷ ts) = not (is_idle t.2) && none_idle ts
-
-stays_open : (ts : List Step) (st from : Stage) (i : Identity) → none_idle ts ≡ true → is_idle st ≡ false → is_idle (unwrap_or (step_in ts from i) st) ≡ false
-stays_open [] st from i h o = o
-stays_open (t ∷ ts) st from i h o =
-    let both = and_parts (not (is_idle t.2)) (none_idle ts) h in
-    of (is_stage t.0 from && is_identity t.1 i) (not-true (is_idle t.2) both.0) (stays_open ts st from i both.1 o)
-  where
-    of : (found : Bool) → is_idle t.2 ≡ false → is_idle (unwrap_or (step_in ts from i) st) ≡ false → is_idle (unwrap_or (cond found (Some t.2) (step_in ts from i)) st) ≡ false
-    of true p q = p
-    of false p q = q
-
 moves_open : (st : Stage) (i : Identity) (brief : Bool) → is_idle st ≡ false → is_idle (unwrap_or (next_stage st i brief) st) ≡ false
-moves_open st i true o = stays_open (steps Between) st st i refl o
-moves_open st i false o = stays_open (steps Begun) st st i refl o
+moves_open st i true o = grind (arith, nat_tests)
+moves_open st i false o = grind (arith, nat_tests)
 
 -- once an extract is open, it is so after each row that is taken
 row_open : (s : Standing) (row : List ℕ) → is_idle s.extract.stage ≡ false → IsTaken s row → is_idle (after_row s.extract row).stage ≡ false
@@ -124,12 +106,12 @@ first_free true f ls h = absurd (some_none _ h)
 first_free false f ls h = refl
 
 -- a confirmation that is accepted finds the extract complete
-complete_from : (s : Standing) (slots : ℕ) → refusal_of Confirm s slots ≡ None → is_stage s.extract.stage Complete ≡ true
+complete_from : (s : Standing) (slots : ℕ) → refusal_of Confirm s slots ≡ None → is_complete s.extract.stage ≡ true
 complete_from s slots r =
     let none = none_mapped (told_with Confirm s) (uppermost (refusals Confirm s slots)) r in
-    not-false (is_stage s.extract.stage Complete) (first_free (not (is_stage s.extract.stage Complete)) (fault_at OutOfPlace 0) (slot_lines slots s.store.capacity) none)
+    not-false (is_complete s.extract.stage) (first_free (not (is_complete s.extract.stage)) (fault_at OutOfPlace 0) (slot_lines slots s.store.capacity) none)
 
-complete_whole : (st : Stage) → is_stage st Complete ≡ true → (is_reading st ≡ false) × (is_idle st ≡ false)
+complete_whole : (st : Stage) → is_complete st ≡ true → (is_reading st ≡ false) × (is_idle st ≡ false)
 complete_whole Complete h = (refl, refl)
 complete_whole st h = absurd (true≢false (sym h))
 

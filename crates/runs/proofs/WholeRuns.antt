@@ -4,7 +4,7 @@ use Rattle.std.proofs.lemmas.List.{take_all}
 use Rattle.std.proofs.lemmas.Option.{get_or_from_slice_get, slice_get-get_or}
 use Rattle.std.proofs.lemmas.Bool.{cases_lt}
 use Rattle.schedule.specs.declared.record.Record.{Record}
-use Rattle.timetable.specs.Timetables.{Meaning}
+use Rattle.timetable.specs.Timetables.{Meaning, StoreEdit}
 use Rattle.overlay.specs.Permitted.{EachMayBeDone}
 use Rattle.controller.specs.declared.answer.Answer.{Answer}
 use Rattle.controller.specs.Ledger.{Ledger, LinesOf, Entry, ledger_after_all, is_accepted}
@@ -78,9 +78,9 @@ none_made meaning first p run b = record {
 }
 
 -- what a call that is made says, by the ledger
-by_ledger : {S : Type 0} {M : _} (meaning : S → Meaning) (first : Ledger) (before after : Run S M) (q : Asked) (a : Answer) (capacity slots : ℕ) → capacity_of meaning before ≡ capacity → (state_of meaning before).slots ≡ slots
-    → Makes meaning first before after (call_meant q) a → ByLedger capacity slots (ledger_of first before) (call_meant q) a
-by_ledger meaning first before after q a capacity slots c n m =
+by_ledger : {S : Type 0} {M : _} (meaning : S → Meaning) (becomes : S → List StoreEdit → S → Type 0) (first : Ledger) (before after : Run S M) (q : Asked) (a : Answer) (capacity slots : ℕ) → capacity_of meaning before ≡ capacity → (state_of meaning before).slots ≡ slots
+    → Makes meaning becomes first before after (call_meant q) a → ByLedger capacity slots (ledger_of first before) (call_meant q) a
+by_ledger meaning becomes first before after q a capacity slots c n m =
     subst (λ (x : ℕ). ByLedger x slots (ledger_of first before) (call_meant q) a) c
     (subst (λ (y : ℕ). ByLedger (capacity_of meaning before) y (ledger_of first before) (call_meant q) a) n
     (record {
@@ -92,16 +92,16 @@ by_ledger meaning first before after q a capacity slots c n m =
       unnamed = m.unnamed;
     }))
 
-pub one_more : {S : Type 0} {M : _} (meaning : S → Meaning) (first : Ledger) (p : Plan S) (before after : Run S M) (answer : Option Answer) (n : ℕ)
-    → n < length p.calls.now → SoFar meaning first p before n → Next meaning first before after answer → SoFar meaning first p after (n + 1)
-one_more meaning first p before after None n l s next = absurd (let a = next.none_left in let b = s.made in let c : length before.calls.now ≡ length p.calls.now = ap length s.calls in omega arith)
-one_more meaning first p before after (Some a) n l s next =
+pub one_more : {S : Type 0} {M : _} (meaning : S → Meaning) (becomes : S → List StoreEdit → S → Type 0) (first : Ledger) (p : Plan S) (before after : Run S M) (answer : Option Answer) (n : ℕ)
+    → n < length p.calls.now → SoFar meaning first p before n → Next meaning becomes first before after answer → SoFar meaning first p after (n + 1)
+one_more meaning becomes first p before after None n l s next = absurd (let a = next.none_left in let b = s.made in let c : length before.calls.now ≡ length p.calls.now = ap length s.calls in omega arith)
+one_more meaning becomes first p before after (Some a) n l s next =
     let capacity = (meaning p.store).capacity in
     let slots = length p.slots.now in
     let within : before.made < length before.answers.now =
     (let b = s.made in let c : length before.calls.now ≡ length p.calls.now = ap length s.calls in let d = before.places in omega arith) in
     let more = each_more first capacity slots before.calls.now before.answers.now before.made next.call a next.next within
-    (by_ledger meaning first before after next.call a capacity slots s.capacity s.slots next.makes) s.each in
+    (by_ledger meaning becomes first before after next.call a capacity slots s.capacity s.slots next.makes) s.each in
     record {
       calls = ap (λ (c : _). c.now) next.goes_on.calls ∙ s.calls;
       made = next.goes_on.made ∙ ap (λ (m : ℕ). m + 1) s.made;

@@ -1,6 +1,8 @@
 -- Calls as values, how an installation stands, and the ledger of the calls that were made.
-use Rattle.std.specs.Prelude.{ℕ, List, [], ◌∷◌, take}
-use Rattle.timetable.specs.Timetables.{Meaning}
+use Rattle.std.specs.Prelude.{ℕ, Bool, true, List, [], ◌∷◌, take}
+use Rattle.schedule.specs.declared.transaction.Change.{Change}
+use Rattle.timetable.specs.Timetables.{Meaning, StoreEdit}
+use Rattle.overlay.specs.Settling.{edits_of}
 use Rattle.controller.specs.declared.answer.Answer.{Answer}
 use Rattle.controller.specs.Calls.{Call, Open, Row, Confirm, Abandon, Turn, Tell, Tally}
 use Rattle.controller.specs.Ledger.{Ledger, new_ledger, Entry, ledger_after_all, is_accepted}
@@ -22,6 +24,12 @@ call_meant AsksTally = Tally
 -- how an installation stands
 abbrev pub stands : {S : Type 0} → (S → Meaning) → Installation S → State
 stands meaning i = state_in meaning i.controller i.board
+
+-- what a call does to the store of an installation where such transactions are pending: an accepted confirm does them, and no other
+-- call does anything to it
+abbrev pub edits_by : Call → Bool → List Change → List StoreEdit
+edits_by Confirm true pending = edits_of pending
+edits_by _ _ pending = []
 
 -- calls as they are written down: each with whether its answer says that it was accepted
 abbrev pub entries : List Asked → List Answer → List Entry

@@ -1,15 +1,16 @@
 -- Installations that are asked one call after another, each begun new.
 use Rattle.std.specs.Prelude.{◌≡◌, ℕ, ◌+◌, ◌≤◌, Bool, true, List, [], length, set, Some, Option, Result, MatchOption, MatchResult, slice_get}
 use Rattle.std.specs.Bool.{OnFalse}
-use Rattle.timetable.specs.Timetables.{Meaning}
+use Rattle.timetable.specs.Timetables.{Meaning, StoreEdit}
 use Rattle.extract.specs.Progress.{transactions_of}
 use Rattle.board.specs.Boards.{SlotsKept}
 use Rattle.board.specs.Strikes.{lines_without}
 use Rattle.controller.specs.declared.answer.Answer.{Answer}
+use Rattle.controller.specs.Shown.{store_of}
 use Rattle.controller.specs.Calls.{Call}
 use Rattle.controller.specs.Ledger.{Ledger, ledger_after, AnswerOf, is_accepted, has_train}
 use Rattle.controller.specs.Keeping.{State, KeepsTo, is_confirm}
-use Rattle.runs.specs.Calls.{call_meant, stands, ledger_at}
+use Rattle.runs.specs.Calls.{call_meant, edits_by, stands, ledger_at}
 use Rattle.runs.specs.declared.installation.Installation.{Installation}
 use Rattle.runs.specs.declared.call.Call.{Call as Asked}
 use Rattle.runs.specs.declared.plan.Plan.{Plan}
@@ -22,6 +23,10 @@ ledger_of first run = ledger_at first run.calls.now run.answers.now run.made
 -- its installation
 abbrev pub installation_of : {S : Type 0} {M : _} → Run S M → Installation S
 installation_of run = run.installation
+
+-- its store
+abbrev pub store_in : {S : Type 0} {M : _} → Run S M → S
+store_in run = store_of (installation_of run).controller
 
 -- the places for its answers
 abbrev pub answers_of : {S : Type 0} {M : _} → Run S M → List Answer
@@ -40,7 +45,7 @@ abbrev pub named_in : Ledger → ℕ → Bool
 named_in ℓ = has_train (transactions_of ℓ.rows)
 
 -- A CALL THAT A RUN MAKES, by the ledger of the calls that it made before
-pub record Makes {S : Type 0} {M : _} (meaning : S → Meaning) (first : Ledger) (before after : Run S M) (call : Call) (answer : Answer) : Type 0 where
+pub record Makes {S : Type 0} {M : _} (meaning : S → Meaning) (becomes : S → List StoreEdit → S → Type 0) (first : Ledger) (before after : Run S M) (call : Call) (answer : Answer) : Type 0 where
   -- it is done or turned away as the table of refusals gives for that ledger, and answered from that ledger
   pub told : AnswerOf (ledger_of first before) (capacity_of meaning before) (state_of meaning before).slots call answer
   -- it is written down
@@ -55,6 +60,9 @@ pub record Makes {S : Type 0} {M : _} (meaning : S → Meaning) (first : Ledger)
       is_confirm call ≡ true → is_accepted answer ≡ true
       → lines_without (named_in (ledger_of first before)) (state_of meaning before).lines
       ≡ lines_without (named_in (ledger_of first before)) (state_of meaning after).lines
+  -- the store becomes what the puts and removals of the confirmed transactions make of it; any other call leaves it the same
+  pub store :
+      becomes (store_in before) (edits_by call (is_accepted answer) (transactions_of (ledger_of first before).rows)) (store_in after)
   -- capacity and line slots stay, and the slots past the board's last line keep what they had
   pub capacity : capacity_of meaning after ≡ capacity_of meaning before
   pub slots : (state_of meaning after).slots ≡ (state_of meaning before).slots
@@ -67,11 +75,11 @@ pub record GoesOn {S : Type 0} {M : _} (before after : Run S M) (answer : Answer
   pub answers : after.answers.now ≡ set before.answers.now before.made answer
 
 -- a run makes its next call
-pub record MakesNext {S : Type 0} {M : _} (meaning : S → Meaning) (first : Ledger) (before after : Run S M) (answer : Answer) : Type 0 where
+pub record MakesNext {S : Type 0} {M : _} (meaning : S → Meaning) (becomes : S → List StoreEdit → S → Type 0) (first : Ledger) (before after : Run S M) (answer : Answer) : Type 0 where
   pub call : Asked
   pub next : slice_get before.calls.now before.made ≡ Some call
   pub goes_on : GoesOn before after answer
-  pub makes : Makes meaning first before after (call_meant call) answer
+  pub makes : Makes meaning becomes first before after (call_meant call) answer
 
 -- or has none left, and is the value that it was
 pub record IsOver {S : Type 0} {M : _} (before after : Run S M) : Type 0 where
@@ -79,8 +87,9 @@ pub record IsOver {S : Type 0} {M : _} (before after : Run S M) : Type 0 where
   pub same : after ≡ before
 
 -- a run is asked for its next call
-abbrev pub Next : {S : Type 0} {M : _} → (S → Meaning) → Ledger → Run S M → Run S M → Option Answer → Type 0
-Next meaning first before after answer = MatchOption answer (IsOver before after) (λ a. MakesNext meaning first before after a)
+abbrev pub Next : {S : Type 0} {M : _} → (S → Meaning) → (S → List StoreEdit → S → Type 0) → Ledger → Run S M → Run S M → Option Answer → Type 0
+Next meaning becomes first before after answer =
+    MatchOption answer (IsOver before after) (λ a. MakesNext meaning becomes first before after a)
 
 -- a plan can be run: its store is empty, and there is a place for the answer to each call
 pub record Suits {S : Type 0} (meaning : S → Meaning) (p : Plan S) : Type 0 where

@@ -5,7 +5,8 @@ ghost use Rattle.timetable.specs.Timetables.{IsWithinCapacity};
 ghost use Rattle.board.specs.Boards.{SlotsKept};
 ghost use Rattle.controller.specs.Ledger.{new_ledger, is_accepted};
 ghost use Rattle.controller.specs.Keeping.{KeepsTo, Obeys};
-ghost use Rattle.runs.specs.Calls.{call_meant, stands};
+ghost use Rattle.controller.specs.Shown.{store_of, progress_in};
+ghost use Rattle.runs.specs.Calls.{call_meant, edits_by, stands};
 
 use crate::call::Call;
 use board::display::Board;
@@ -42,6 +43,10 @@ impl<'a, S: Store> Installation<'a, S> {
         ensures obeys { Obeys (stands S.meaning self.old) (stands S.meaning self.new)
             (call_meant call.now) result }
         ensures unchanged { OnFalse (is_accepted result) (self.new ≡ self.old) }
+        ensures store { S.Store.becomes (store_of self.old.controller)
+            (edits_by (call_meant call.now) (is_accepted result)
+            (progress_in self.old.controller).changes)
+            (store_of self.new.controller) }
         ensures rest { SlotsKept self.old.board self.new.board }
     {
         match call {

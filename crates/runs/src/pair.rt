@@ -1,7 +1,7 @@
 // Two installations, over stores of any two makes.
 use crate::run::Run;
 use controller::answer::Answer;
-use timetable::Store;
+use timetable::{Store, Timetable};
 
 /// One of two installations.
 #[derive(Clone, Copy, Debug, PartialEq, Eq)]
@@ -12,7 +12,7 @@ pub enum Side {
 
 /// Two installations, each with the calls that it is asked.
 #[derive(Drop)]
-pub struct Pair<'a, 'b, S: Store, T: Store> {
+pub struct Pair<'a, 'b, S: Timetable, T: Timetable> {
     pub left: Run<'a, S>,
     pub right: Run<'b, T>,
 }
@@ -23,7 +23,8 @@ impl<S: Store, T: Store> Pair<'_, '_, S, T> {
 
     /// Makes the next call of one side, and answers it; none where all calls of that side are made.
     pub fn call_next(&mut self, side: Side) -> Option<Answer>
-        ensures { ∥ WholePromise S.meaning T.meaning first_ledger self.old self.new side result ∥₁ }
+        ensures { ∥ WholePromise S.meaning T.meaning S.Store.becomes T.Store.becomes first_ledger
+            self.old self.new side result ∥₁ }
     {
         match side {
             Side::Left => self.left.call_next(),

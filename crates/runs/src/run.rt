@@ -4,7 +4,8 @@ ghost use Rattle.controller.specs.Keeping.{KeepsTo, Obeys};
 ghost use Rattle.std.specs.Bool.{OnFalse};
 ghost use Rattle.board.specs.Boards.{SlotsKept};
 ghost use Rattle.controller.specs.Ledger.{is_accepted};
-ghost use Rattle.runs.specs.Calls.{call_meant, stands, first_ledger, ledger_at};
+ghost use Rattle.controller.specs.Shown.{store_of, progress_in};
+ghost use Rattle.runs.specs.Calls.{call_meant, edits_by, stands, first_ledger, ledger_at};
 
 use crate::call::Call;
 use crate::installation::Installation;
@@ -14,7 +15,7 @@ use timetable::{Store, Timetable};
 
 /// An installation with the calls that it is asked, in order: those that were made, and the answer to each.
 #[derive(Drop)]
-pub struct Run<'a, S: Store> {
+pub struct Run<'a, S: Timetable> {
     /// The controller and its board.
     pub(crate) installation: Installation<'a, S>,
     // The calls, in order.
@@ -24,7 +25,7 @@ pub struct Run<'a, S: Store> {
     // How many of the calls were made.
     made: usize,
     ghost places: { length answers.now ≡ length calls.now },
-    ghost keeps: { ∥ KeepsTo (stands S.Timetable.meaning installation)
+    ghost keeps: { ∥ KeepsTo (stands S.meaning installation)
         (ledger_at first_ledger calls.now answers.now made) ∥₁ },
 }
 
@@ -39,6 +40,10 @@ fn make<S: Store>(
     ensures obeys { Obeys (stands S.meaning installation.old) (stands S.meaning installation.new)
         (call_meant call.now) result }
     ensures unchanged { OnFalse (is_accepted result) (installation.new ≡ installation.old) }
+    ensures store { S.Store.becomes (store_of installation.old.controller)
+        (edits_by (call_meant call.now) (is_accepted result)
+        (progress_in installation.old.controller).changes)
+        (store_of installation.new.controller) }
     ensures rest { SlotsKept installation.old.board installation.new.board }
     ensures answers { answers.new ≡ set answers.old made.old result }
     ensures made { made.new ≡ made.old + 1 }
@@ -76,7 +81,7 @@ impl<'a, S: Store> Run<'a, S> {
 
     /// Makes the next call, and answers it; none where all calls are made.
     pub fn call_next(&mut self) -> Option<Answer>
-        ensures { ∥ Next S.meaning first_ledger self.old self.new result ∥₁ }
+        ensures { ∥ Next S.meaning S.Store.becomes first_ledger self.old self.new result ∥₁ }
     {
         let call = self.calls.get(self.made)?;
         Some(make(&mut self.installation, call, self.answers, &mut self.made))

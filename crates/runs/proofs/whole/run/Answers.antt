@@ -9,7 +9,7 @@ loop-init g c = ∣ none_made g.S.Timetable.meaning first_ledger c.args.plan c.i
 pub loop-preserved : goal.loop-preserved
 loop-preserved g c =
     ∥∥₁_elim c.loop.invariant ∥∥₁_prop (λ s. ∥∥₁_map c.call_next.ensures (λ next.
-    one_more g.S.Timetable.meaning first_ledger c.args.plan c.loop.run c.call_next.new.self c.call_next.result c.loop.index c.loop-test.true s next))
+    one_more g.S.Timetable.meaning g.S.Store.becomes first_ledger c.args.plan c.loop.run c.call_next.new.self c.call_next.result c.loop.index c.loop-test.true s next))
 
 pub returns : goal.returns
 returns g c =

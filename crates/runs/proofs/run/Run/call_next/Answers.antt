@@ -1,6 +1,10 @@
-use Rattle.std.proofs.Common.{◌∙◌, ap, refl, length, length-set}
+use Rattle.std.proofs.Common.{List, ◌∙◌, ap, subst, refl, length, length-set}
 use Rattle.std.proofs.Math.Logic.{∥∥₁_map}
-use Rattle.runs.specs.Calls.{stands, first_ledger}
+use Rattle.schedule.specs.declared.transaction.Change.{Change}
+use Rattle.extract.specs.Progress.{Progress}
+use Rattle.controller.specs.Ledger.{is_accepted}
+use Rattle.controller.specs.Shown.{store_of}
+use Rattle.runs.specs.Calls.{call_meant, edits_by, stands, first_ledger}
 use Rattle.runs.proofs.Runs.{stands_at, written, keeps_on}
 use Rattle.runs.proofs.run.Run.call_next.Goals as goal
 
@@ -35,6 +39,10 @@ returns g c =
             (stands g.S.Timetable.meaning run.installation) (stands g.S.Timetable.meaning c.make.new.installation) made.obeys k;
         unchanged = made.unchanged;
         unnamed = o.unnamed;
+        store = subst
+            (λ (cs : List Change). g.S.Store.becomes (store_of run.installation.controller)
+            (edits_by (call_meant c.in_ok-call.call.now) (is_accepted c.make.result) cs) (store_of c.make.new.installation.controller))
+            (ap (λ (p : Progress). p.changes) k.extract.progress) made.store;
         capacity = made.obeys.capacity;
         slots = made.obeys.slots;
         rest = made.rest;
