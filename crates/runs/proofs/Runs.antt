@@ -6,8 +6,16 @@ use Rattle.std.proofs.lemmas.Option.{get_or_from_slice_get, slice_get_within, sl
 use Rattle.controller.specs.Keeping.{State, KeepsTo, Obeys}
 use Rattle.controller.specs.declared.answer.Answer.{Answer}
 use Rattle.controller.specs.Ledger.{Ledger, ledger_after, Entry, ledger_after_all, is_accepted}
+use Rattle.std.specs.Bool.{OnFalse}
+use Rattle.schedule.specs.declared.transaction.Change.{Change}
+use Rattle.timetable.specs.Timetables.{Meaning, StoreEdit}
+use Rattle.extract.specs.Progress.{Progress}
+use Rattle.board.specs.Boards.{SlotsKept}
+use Rattle.controller.specs.Shown.{progress_in}
 use Rattle.runs.specs.declared.call.Call.{Call as Asked}
-use Rattle.runs.specs.Calls.{call_meant, entries, ledger_at}
+use Rattle.runs.specs.declared.run.Run.{Run}
+use Rattle.runs.specs.Runs.{ledger_of, installation_of, store_in, state_of, GoesOn, MakesNext}
+use Rattle.runs.specs.Calls.{call_meant, edits_by, entries, ledger_at}
 
 -- one call more
 entries_more : (qs : List Asked) (rs : List Answer) (i : ℕ) (q : Asked) (a : Answer) → slice_get qs i ≡ Some q → i < length rs → take (suc i) (entries qs (set rs i a)) ≡ take i (entries qs rs) ++ (call_meant q, is_accepted a) ∷ []
@@ -36,3 +44,34 @@ module _ (first : Ledger) (qs : List Asked) (rs ss : List Answer) (i j : ℕ) (q
   -- a call that obeys keeps to the ledger that has it
   pub keeps_on : (s t : State) → Obeys s t (call_meant q) a → KeepsTo s (ledger_at first qs rs i) → KeepsTo t (ledger_at first qs ss j)
   keeps_on s t o k = subst (λ (ℓ : Ledger). KeepsTo t ℓ) (sym written) (o.ledger (ledger_at first qs rs i) k).keeps
+
+-- a run whose installation obeys makes its next call
+pub makes_next : {S : Type 0} {M : _} (meaning : S → Meaning) (becomes : S → List StoreEdit → S → Type 0) (first : Ledger) (before after : Run S M) (q d : Asked) (a : Answer)
+    → true ≡ nat_lt before.made (length before.calls.now) → q ≡ slice_index_or before.calls.now before.made d → GoesOn before after a
+    → Obeys (state_of meaning before) (state_of meaning after) (call_meant q) a → OnFalse (is_accepted a) (installation_of after ≡ installation_of before)
+    → becomes (store_in before) (edits_by (call_meant q) (is_accepted a) (progress_in (installation_of before).controller).changes) (store_in after)
+    → SlotsKept (installation_of before).board (installation_of after).board → KeepsTo (state_of meaning before) (ledger_of first before)
+    → MakesNext meaning becomes first before after a
+makes_next meaning becomes first before after q d a there is on obeys unchanged store rest kept =
+    let obeyed = obeys.ledger (ledger_of first before) kept in
+    let at = stands_at first before.calls.now before.answers.now after.answers.now before.made after.made q d a before.places there is on.answers on.made in
+    let noted : ledger_of first after ≡ ledger_after (ledger_of first before) (call_meant q) (is_accepted a) =
+    ap (λ (c : _). ledger_at first c.now after.answers.now after.made) on.calls
+    ∙ written first before.calls.now before.answers.now after.answers.now before.made after.made q d a before.places there is on.answers on.made in
+    record {
+      call = q;
+      next = at;
+      goes_on = on;
+      makes = record {
+        told = obeyed.told;
+        written = noted;
+        kept = kept;
+        keeps = subst (λ (ℓ : Ledger). KeepsTo (state_of meaning after) ℓ) (sym noted) obeyed.keeps;
+        unchanged = unchanged;
+        unnamed = obeyed.unnamed;
+        store = subst (λ (cs : List Change). becomes (store_in before) (edits_by (call_meant q) (is_accepted a) cs) (store_in after)) (ap (λ (p : Progress). p.changes) kept.extract.progress) store;
+        capacity = obeys.capacity;
+        slots = obeys.slots;
+        rest = rest;
+      };
+    }
