@@ -96,7 +96,8 @@ AreRead [] [] = ⊤
 AreRead (row ∷ rows) (c ∷ cs) = (read_in row ≡ Ok c) × AreRead rows cs
 AreRead _ _ = ⊥
 
--- the call row takes a raw row: no line of the table of refusals holds of it
+-- the call row takes a raw row: no line of the table of refusals holds of it; it is given no board, so any number may stand for the
+-- line slots
 abbrev pub IsTaken : Standing → List ℕ → Type 0
 IsTaken s row = refusal_of (Row row) s 0 ≡ None
 
