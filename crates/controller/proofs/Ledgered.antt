@@ -1,5 +1,5 @@
 -- The rows of a ledger were taken.
-use Rattle.std.proofs.Common.{◌≡◌, ℕ, Bool, true, false, cond, not, ◌&&◌, List, [], ◌∷◌, ◌++◌, Some, None, Option, MatchOption, fold, unwrap_or, sym, refl, ap, ◌∙◌, subst, arith}
+use Rattle.std.proofs.Common.{◌≡◌, ℕ, Bool, true, false, not, List, [], ◌∷◌, ◌++◌, Some, None, Option, MatchOption, fold, unwrap_or, sym, refl, ap, ◌∙◌, subst, arith}
 use Rattle.std.proofs.lemmas.Bool.{true≢false, not-false}
 use Rattle.std.proofs.lemmas.Bool.Decides.{nat_tests}
 use Rattle.cif.specs.declared.identity.Identity.{Identity}
@@ -11,7 +11,7 @@ use Rattle.cif.specs.declared.refusal.ColumnFault.{ColumnFault}
 use Rattle.maps.proofs.Maps.{some_none}
 use Rattle.timetable.specs.Timetables.{Meaning}
 use Rattle.extract.specs.declared.stage.Stage.{Stage}
-use Rattle.extract.specs.declared.stage.Stage.TheVariants.{Idle, Between, Begun, Complete}
+use Rattle.extract.specs.declared.stage.Stage.TheVariants.{Idle, Complete}
 use Rattle.extract.specs.Stages.{is_idle, is_complete, next_stage, is_reading}
 use Rattle.extract.specs.Progress.{Progress, identity_for, brief_in, after_row, progress_of, transactions_of}
 use Rattle.extract.specs.Judging.{Standing, is_misplaced, is_no_opening}
