@@ -13,6 +13,10 @@ shown_of b = b.shown
 abbrev pub lines_of : Board → List Line
 lines_of b = items b.lines.elements
 
+-- what its line slots have, those past its lines among them
+abbrev pub line_slots : Board → List Line
+line_slots b = b.lines.elements.slots.now
+
 -- how many line slots it has
 abbrev pub slots_of : Board → ℕ
 slots_of b = room b.lines.elements

@@ -1,7 +1,7 @@
 // What a board can be asked to do.
 ghost use Rattle.std.specs.Prelude.{◌≡◌, ◌*◌, ◌≤◌, [], length, Some, None, OnOk, OnErr, slice_get};
 ghost use Rattle.cif.specs.Refusals.{uppermost, fault_of};
-ghost use Rattle.board.specs.Boards.{shown_of, lines_of, slots_of, SlotsKept};
+ghost use Rattle.board.specs.Boards.{shown_of, lines_of, line_slots, slots_of, SlotsKept};
 ghost use Rattle.board.specs.Lines.{BoardOf};
 ghost use Rattle.board.specs.Turning.{shown_for, turn_lines};
 
@@ -29,11 +29,12 @@ impl StationDay {
 }
 
 impl Board<'_> {
-    /// A board over line slots, with no station and no lines.
+    /// A board over line slots, whatever they hold, with no station and no lines.
     pub fn new<'b>(slots: &'b mut [Line]) -> Board<'b>
         ensures shown { shown_of result ≡ None }
         ensures lines { lines_of result ≡ [] }
         ensures slots { slots_of result ≡ length slots.old }
+        ensures kept { line_slots result ≡ slots.old }
     {
         let lines = Ordered::new(slots);
         Board { lines, shown: None }

@@ -73,8 +73,8 @@ none_made meaning first p run b = record {
   calls = ap (λ (c : _). c.now) b.calls;
   made = b.made;
   each = λ k call answer l e f. absurd (let m = b.made in omega arith);
-  capacity = b.capacity;
-  slots = b.slots;
+  capacity = ap (λ (s : _). (meaning s).capacity) b.store;
+  slots = ap length b.slots;
 }
 
 -- what a call that is made says, by the ledger

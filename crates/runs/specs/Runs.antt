@@ -3,7 +3,7 @@ use Rattle.std.specs.Prelude.{◌≡◌, ℕ, ◌+◌, ◌≤◌, Bool, true, Li
 use Rattle.std.specs.Bool.{OnFalse}
 use Rattle.timetable.specs.Timetables.{Meaning, StoreEdit}
 use Rattle.extract.specs.Progress.{transactions_of}
-use Rattle.board.specs.Boards.{SlotsKept}
+use Rattle.board.specs.Boards.{line_slots, SlotsKept}
 use Rattle.board.specs.Strikes.{lines_without}
 use Rattle.controller.specs.declared.answer.Answer.{Answer}
 use Rattle.controller.specs.Shown.{store_of}
@@ -102,8 +102,8 @@ pub record Begins {S : Type 0} {M : _} (meaning : S → Meaning) (p : Plan S) (r
   pub calls : run.calls ≡ p.calls
   pub answers : run.answers ≡ p.answers
   pub made : run.made ≡ 0
-  pub capacity : capacity_of meaning run ≡ (meaning p.store).capacity
-  pub slots : (state_of meaning run).slots ≡ length p.slots.now
+  pub store : store_in run ≡ p.store
+  pub slots : line_slots (installation_of run).board ≡ p.slots.now
 
 -- a run begins, or its plan cannot be run and is handed back as it was
 abbrev pub BegunFrom : {S : Type 0} {M : _} → (S → Meaning) → Plan S → Result (Run S M) (Plan S) → Type 0

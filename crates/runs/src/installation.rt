@@ -2,7 +2,7 @@
 ghost use Rattle.std.specs.Prelude.{◌≡◌, length};
 ghost use Rattle.std.specs.Bool.{OnFalse};
 ghost use Rattle.timetable.specs.Timetables.{IsWithinCapacity};
-ghost use Rattle.board.specs.Boards.{SlotsKept};
+ghost use Rattle.board.specs.Boards.{line_slots, SlotsKept};
 ghost use Rattle.controller.specs.Ledger.{new_ledger, is_accepted};
 ghost use Rattle.controller.specs.Keeping.{KeepsTo, Obeys};
 ghost use Rattle.controller.specs.Shown.{store_of, progress_in};
@@ -28,9 +28,8 @@ impl<'a, S: Store> Installation<'a, S> {
     pub fn new(store: S, slots: &'a mut [Line]) -> Installation<'a, S>
         ensures keeps { IsWithinCapacity (S.meaning store)
             → KeepsTo (stands S.meaning result) (new_ledger (S.meaning store).map) }
-        ensures capacity { (stands S.meaning result).standing.store.capacity
-            ≡ (S.meaning store).capacity }
-        ensures slots { (stands S.meaning result).slots ≡ length slots.old }
+        ensures store { store_of result.controller ≡ store }
+        ensures slots { line_slots result.board ≡ slots.old }
     {
         Installation {
             controller: Controller::new(store),
