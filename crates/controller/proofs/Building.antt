@@ -25,7 +25,7 @@ use Rattle.extract.specs.Stages.{next_stage}
 use Rattle.extract.specs.Progress.{Progress, change_by, is_deletion, is_brief, after}
 use Rattle.extract.specs.Judging.{Standing}
 use Rattle.extract.proofs.Lines.{none_first}
-use Rattle.controller.specs.ScheduleRows.{WayRow, LI, CR, way_content, way_locations, operator_contents, ScheduleRows, contents_of, locations_of, schedule_with, asked_with, transaction_in, brief_transaction_in, begins_schedule, joins_at, Join, ScheduleRowsMakeOne, BriefRowJoinsAtOnce, OtherRowsAddNone}
+use Rattle.controller.specs.ScheduleRows.{WayRow, LI, CR, way_content, way_locations, operator_contents, ScheduleRows, schedule_contents, locations_of, schedule_with, asked_with, transaction_of_rows, transaction_of_brief, begins_schedule, joins_at, Join, ScheduleRowsMakeOne, BriefRowJoinsAtOnce, OtherRowsAddNone}
 use Rattle.controller.proofs.Stepping.{only_between}
 use Rattle.controller.proofs.Heard.{row_moves}
 use Rattle.controller.proofs.Taking.{Admits, AdmitsAll, moved, taken_admits, taken_all}
@@ -177,7 +177,7 @@ brings_revised : Brings Revise
 brings_revised = record { steps = λ f r. refl; lines = λ r l. refl }
 
 -- the rows of a schedule
-pub schedule_ends : (s : Standing) (r : ScheduleRows) → begins_schedule r.basic ≡ true → AdmitsAll s (contents_of r) → Join (transaction_in r ∷ []) s.extract (fold after s.extract (contents_of r))
+pub schedule_ends : (s : Standing) (r : ScheduleRows) → begins_schedule r.basic ≡ true → AdmitsAll s (schedule_contents r) → Join (transaction_of_rows r ∷ []) s.extract (fold after s.extract (schedule_contents r))
 schedule_ends s r begins a = join_from _ s.extract _ _ none (of r.basic.action refl begins)
   where
     b : BasicSchedule
@@ -199,7 +199,7 @@ schedule_ends s r begins a = join_from _ s.extract _ _ none (of r.basic.action r
     asks = ap (λ brief. cond brief s.extract.draft (change_by b b.action)) long
 
     Goal : Action → Type 0
-    Goal c = Join (asked_with b c (unwrap_or r.operator two_blanks) r.terminus.tiploc (filter is_kept (locations_of r)) ∷ []) (moved s (Schedule b)).extract (fold after s.extract (contents_of r))
+    Goal c = Join (asked_with b c (unwrap_or r.operator two_blanks) r.terminus.tiploc (filter is_kept (locations_of r)) ∷ []) (moved s (Schedule b)).extract (fold after s.extract (schedule_contents r))
 
     of : (c : Action) → b.action ≡ c → begins_schedule b ≡ true → Goal b.action
     of (AsksNew d) e k = subst (λ (c : Action). Goal c) (sym e) (operator_ends New brings_new b d runs (moved s (Schedule b)) r.operator r.origin r.way r.terminus (asks ∙ ap (change_by b) e) begun a.1)
@@ -209,10 +209,10 @@ schedule_ends s r begins a = join_from _ s.extract _ _ none (of r.basic.action r
 -- and so where they are taken
 pub schedule_made : ScheduleRowsMakeOne
 schedule_made s rows r begins read taken =
-    let t = taken_all s rows (contents_of r) read taken in
-    subst (λ (p : Progress). Join (transaction_in r ∷ []) s.extract p) (sym t.1) (schedule_ends s r begins t.0)
+    let t = taken_all s rows (schedule_contents r) read taken in
+    subst (λ (p : Progress). Join (transaction_of_rows r ∷ []) s.extract p) (sym t.1) (schedule_ends s r begins t.0)
 
-pub brief_joins : (s : Standing) (b : BasicSchedule) → begins_schedule b ≡ false → Admits s (Schedule b) → Join (brief_transaction_in b ∷ []) s.extract (after s.extract (Schedule b))
+pub brief_joins : (s : Standing) (b : BasicSchedule) → begins_schedule b ≡ false → Admits s (Schedule b) → Join (transaction_of_brief b ∷ []) s.extract (after s.extract (Schedule b))
 brief_joins s b alone a =
     let brief = brief_is b ∙ ap not alone in
     record {
@@ -227,7 +227,7 @@ brief_joins s b alone a =
 
 pub brief_made : BriefRowJoinsAtOnce
 brief_made s row b alone read taken =
-    subst (λ (p : Progress). Join (brief_transaction_in b ∷ []) s.extract p) (sym (row_moves s.extract row (Schedule b) read)) (brief_joins s b alone (taken_admits s row (Schedule b) read taken))
+    subst (λ (p : Progress). Join (transaction_of_brief b ∷ []) s.extract p) (sym (row_moves s.extract row (Schedule b) read)) (brief_joins s b alone (taken_admits s row (Schedule b) read taken))
 
 pub none_joins : (p : Progress) (c : Content) → joins_at c ≡ false → (after p c).changes ≡ p.changes
 none_joins p (Header h) j = append-nil p.changes

@@ -1,11 +1,14 @@
 -- A row that is taken is whole, in place and read, and no line of the table holds of what it holds.
-use Rattle.std.proofs.Common.{◌≡◌, ℕ, true, false, List, [], ◌∷◌, Some, None, Ok, Err, Option, Result, fold, refl, ap, ◌∙◌, subst}
+use Rattle.std.proofs.Common.{◌≡◌, ℕ, Bool, true, false, List, [], ◌∷◌, Some, None, Ok, Err, Option, Result, fold, refl, ap, ◌∙◌, subst}
 use Rattle.std.specs.Option.{option_map}
 use Rattle.cif.specs.declared.content.Content.{Content}
+use Rattle.cif.specs.declared.identity.Identity.{Identity}
+use Rattle.cif.specs.declared.refusal.ColumnFault.{ColumnFault}
 use Rattle.cif.specs.Refusals.{uppermost, fault_of}
 use Rattle.cif.specs.Reading.{read_in, told_in}
 use Rattle.cif.proofs.Results.{ok_is}
 use Rattle.maps.proofs.Maps.{some_none}
+use Rattle.extract.specs.declared.stage.Stage.{Stage}
 use Rattle.extract.specs.Progress.{Progress, identity_for, after, after_row}
 use Rattle.extract.specs.Judging.{Standing, is_misplaced, is_no_opening, content_lines}
 use Rattle.controller.specs.Calls.{Open, Row, refusals, refusal_of, told_with, bytes_verdict}
@@ -22,12 +25,21 @@ no_fault : {X E : Type 0} (r : Result X E) → fault_of r ≡ None → (x : X) �
 no_fault (Ok x) h = (x, refl)
 no_fault (Err e) h = absurd (some_none _ h)
 
--- a row that is taken is heard
+-- a row of which no line of the table holds is heard
+heard_where : (misplaced : Stage → Identity → Bool) (s : Standing) (row : List ℕ) (o : Option ColumnFault) → fault_of (bytes_verdict misplaced s row) ≡ option_map (told_in row) o → o ≡ None → (p : Progress) × HeardAs misplaced s row p
+heard_where misplaced s row o told none =
+    let verdict = no_fault (bytes_verdict misplaced s row) (told ∙ ap (option_map (told_in row)) none) in
+    (verdict.0, heard_as misplaced s row verdict.0 verdict.1)
+
+-- a row that row takes
 pub taken_heard : (s : Standing) (row : List ℕ) → IsTaken s row → (p : Progress) × HeardAs is_misplaced s row p
 taken_heard s row h =
-    let none = none_mapped (told_with (Row row) s) (uppermost (refusals (Row row) s 0)) h in
-    let verdict = no_fault (bytes_verdict is_misplaced s row) (heard_told is_misplaced s row ∙ ap (option_map (told_in row)) none) in
-    (verdict.0, heard_as is_misplaced s row verdict.0 verdict.1)
+    heard_where is_misplaced s row _ (heard_told is_misplaced s row) (none_mapped (told_with (Row row) s) (uppermost (refusals (Row row) s 0)) h)
+
+-- an HD that open takes
+pub opening_heard : (s : Standing) (row : List ℕ) → refusal_of (Open row) s 0 ≡ None → (p : Progress) × HeardAs is_no_opening s row p
+opening_heard s row h =
+    heard_where is_no_opening s row _ (heard_told is_no_opening s row) (none_mapped (told_with (Open row) s) (uppermost (refusals (Open row) s 0)) h)
 
 -- what a row holds that is taken is in place, and no line holds of it
 pub record Admits (s : Standing) (c : Content) : Type 0 where
@@ -70,10 +82,3 @@ taken_read s (row ∷ rows) t =
     let h = (taken_heard s row t.0).1 in
     let rest = taken_read (standing_after s row) rows t.1 in
     (h.content ∷ rest.0, (heard_read h, rest.1))
-
--- an HD that open takes
-pub opening_heard : (s : Standing) (row : List ℕ) → refusal_of (Open row) s 0 ≡ None → (p : Progress) × HeardAs is_no_opening s row p
-opening_heard s row h =
-    let none = none_mapped (told_with (Open row) s) (uppermost (refusals (Open row) s 0)) h in
-    let verdict = no_fault (bytes_verdict is_no_opening s row) (heard_told is_no_opening s row ∙ ap (option_map (told_in row)) none) in
-    (verdict.0, heard_as is_no_opening s row verdict.0 verdict.1)

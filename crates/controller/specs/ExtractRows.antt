@@ -12,7 +12,7 @@ use Rattle.extract.specs.Stages.{is_reading}
 use Rattle.extract.specs.Progress.{idle, after_row, progress_of, transactions_of}
 use Rattle.extract.specs.Judging.{Standing}
 use Rattle.controller.specs.Calls.{Open, refusal_of}
-use Rattle.controller.specs.ScheduleRows.{ScheduleRows, contents_of, transaction_in, brief_transaction_in, begins_schedule, AreRead, AreTaken, standing_after}
+use Rattle.controller.specs.ScheduleRows.{ScheduleRows, schedule_contents, transaction_of_rows, transaction_of_brief, begins_schedule, AreRead, AreTaken, standing_after}
 
 -- a part of an extract after its HD: the rows of a schedule, a BS by itself, or another row by itself
 pub data Part : Type 0 where
@@ -29,7 +29,7 @@ is_other Association = true
 is_other Trailer = true
 is_other _ = false
 
--- a BS has further rows where it begins a schedule, and stands by itself where it deletes or cancels
+-- whether it is one: the BS of a schedule's rows begins a schedule, a BS by itself begins none, and another row is one of the five
 abbrev pub is_part : Part → Bool
 is_part (Whole r) = begins_schedule r.basic
 is_part (Brief b) = not (begins_schedule b)
@@ -37,14 +37,14 @@ is_part (Other i) = is_other i
 
 -- what the rows of a part are read as
 abbrev pub part_contents : Part → List Content
-part_contents (Whole r) = contents_of r
+part_contents (Whole r) = schedule_contents r
 part_contents (Brief b) = Schedule b ∷ []
 part_contents (Other i) = Unread i ∷ []
 
 -- the transactions of a part: one, or none where it is another row
 abbrev pub part_transactions : Part → List Change
-part_transactions (Whole r) = transaction_in r ∷ []
-part_transactions (Brief b) = brief_transaction_in b ∷ []
+part_transactions (Whole r) = transaction_of_rows r ∷ []
+part_transactions (Brief b) = transaction_of_brief b ∷ []
 part_transactions (Other i) = []
 
 -- raw rows are parts, one after another, and with those of all parts the pending transactions grew from some to others

@@ -44,8 +44,8 @@ operator_contents (Some o) = Operator o ∷ []
 operator_contents None = []
 
 -- what the rows of a schedule are read as, in row order
-abbrev pub contents_of : ScheduleRows → List Content
-contents_of r =
+abbrev pub schedule_contents : ScheduleRows → List Content
+schedule_contents r =
     Schedule r.basic ∷ operator_contents r.operator ++ Origin r.origin ∷ map way_content r.way ++ Terminus r.terminus ∷ []
 
 -- the locations of rows on the way, those of LI
@@ -81,14 +81,14 @@ asked_with b AsksDelete operator destination calls = Delete (key_in b)
 
 -- the transaction of a schedule's rows: with the operator of BX or blanks, the TIPLOC of LT, and as calls, in row order, just those of
 -- its locations that have a public arrival or departure
-abbrev pub transaction_in : ScheduleRows → Change
-transaction_in r =
+abbrev pub transaction_of_rows : ScheduleRows → Change
+transaction_of_rows r =
     asked_with r.basic r.basic.action (unwrap_or r.operator two_blanks) r.terminus.tiploc
     (filter is_kept (locations_of r))
 
 -- the transaction of a BS that has no further rows: with blanks and without calls
-abbrev pub brief_transaction_in : BasicSchedule → Change
-brief_transaction_in b = asked_with b b.action two_blanks seven_blanks []
+abbrev pub transaction_of_brief : BasicSchedule → Change
+transaction_of_brief b = asked_with b b.action two_blanks seven_blanks []
 
 -- raw rows are read, one by one, as these contents
 abbrev pub AreRead : List (List ℕ) → List Content → Type 0
@@ -129,15 +129,15 @@ joins_at _ = false
 abbrev pub ScheduleRowsMakeOne : Type 0
 ScheduleRowsMakeOne =
     (s : Standing) (rows : List (List ℕ)) (r : ScheduleRows)
-    → begins_schedule r.basic ≡ true → AreRead rows (contents_of r) → AreTaken s rows
-    → Join (transaction_in r ∷ []) s.extract (fold after_row s.extract rows)
+    → begins_schedule r.basic ≡ true → AreRead rows (schedule_contents r) → AreTaken s rows
+    → Join (transaction_of_rows r ∷ []) s.extract (fold after_row s.extract rows)
 
 -- a BS that begins no schedule adds its own transaction at once
 abbrev pub BriefRowJoinsAtOnce : Type 0
 BriefRowJoinsAtOnce =
     (s : Standing) (row : List ℕ) (b : BasicSchedule)
     → begins_schedule b ≡ false → read_in row ≡ Ok (Schedule b) → IsTaken s row
-    → Join (brief_transaction_in b ∷ []) s.extract (after_row s.extract row)
+    → Join (transaction_of_brief b ∷ []) s.extract (after_row s.extract row)
 
 -- any other row adds none, at whatever stage: TI, TA, TD, AA, CR, ZZ, BX, LO, LI, and a BS that begins a schedule
 abbrev pub OtherRowsAddNone : Type 0

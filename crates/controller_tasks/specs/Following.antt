@@ -6,7 +6,6 @@ use Rattle.board.specs.Boards.{shown_of, lines_of}
 use Rattle.board.specs.Lines.{LinesFor}
 use Rattle.controller.specs.declared.controller.Controller.{Controller}
 use Rattle.controller.specs.Shown.{store_of, progress_in}
-use Rattle.extract.specs.declared.stage.Stage.TheVariants.{Idle, Complete}
 use Rattle.extract.specs.Stages.{is_idle as is_idle_stage, is_complete as is_complete_stage}
 use Rattle.controller_tasks.specs.declared.follow.Followed.{Followed}
 

@@ -75,11 +75,14 @@ impl<'a> RunMemory<'a> {
     }
 }
 
-// Makes the next call of a side. There is one for each line.
-fn answer<S: Store, T: Store>(pair: &mut Pair<'_, '_, S, T>, side: Side) -> anyhow::Result<Answer> {
+// Makes the next call of a side. It is asked once for each line, and each line is one call.
+fn call_next<S: Store, T: Store>(
+    pair: &mut Pair<'_, '_, S, T>,
+    side: Side,
+) -> anyhow::Result<Answer> {
     match pair.call_next(side) {
         Some(answer) => Ok(answer),
-        None => Err(anyhow!("a history has a line that is no call")),
+        None => Err(anyhow!("a history has fewer calls than lines")),
     }
 }
 
@@ -92,7 +95,7 @@ fn print_answers<S: Store, T: Store>(
     counts: &mut Counts,
 ) -> anyhow::Result<()> {
     for (place, step) in steps.iter().enumerate() {
-        let answer = answer(pair, side)?;
+        let answer = call_next(pair, side)?;
         let number = place + 1;
         let word = step.word();
         let words = AnswerWords(&answer);
@@ -109,7 +112,7 @@ fn make_all<S: Store, T: Store>(
     steps: &[Step],
 ) -> anyhow::Result<()> {
     for _ in steps {
-        answer(pair, side)?;
+        call_next(pair, side)?;
     }
     Ok(())
 }
@@ -278,8 +281,8 @@ fn histories_of(rt: &HostRuntime, name: &str, script: &[u8]) -> Result<Vec<Histo
     }
 }
 
-/// Makes the calls of the histories of a script, and prints what came of each call. A script with a line that is
-/// none is refused as a whole.
+/// Makes the calls of the histories of a script, and prints what came of each call. A script with a
+/// line that is none is refused as a whole.
 pub fn print_script(rt: &HostRuntime, name: &str) -> Result<(), TaskError> {
     let script = read_file(rt, name)?;
     let histories = histories_of(rt, name, script.as_slice())?;

@@ -15,9 +15,10 @@ pub trait Mapped<E: Keyed> {
 
     ghost slots: { Self → Slots E };
 
-    // the elements in the order of their slots, after one is put, and after that of a key is removed
+    // the elements in the order of their slots, after one is put
     ghost order_after_put: { List E → E → List E };
 
+    // and after that of a key is removed
     ghost order_after_removal: { List E → E.Key → List E };
 
     /// How many elements are held.

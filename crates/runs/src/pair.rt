@@ -6,14 +6,18 @@ use timetable::{Store, Timetable};
 /// One of two installations.
 #[derive(Clone, Copy, Debug, PartialEq, Eq)]
 pub enum Side {
+    /// The one that `left` of a pair holds.
     Left,
+    /// The one that `right` of a pair holds.
     Right,
 }
 
 /// Two installations, each with the calls that it is asked.
 #[derive(Drop)]
 pub struct Pair<'a, 'b, S: Timetable, T: Timetable> {
+    /// One of them.
     pub left: Run<'a, S>,
+    /// The other.
     pub right: Run<'b, T>,
 }
 

@@ -104,7 +104,8 @@ impl<T: Mapped<Record>> Store for SlotStore<T> {
     ghost use Rattle.schedule.specs.Keys.{key_before};
     ghost use Rattle.schedule.specs.Records.{key_of};
 
-    ghost becomes = { SlotsEdited T.Mapped.order_after_put T.Mapped.order_after_removal T.Mapped.slots };
+    ghost becomes = { SlotsEdited T.Mapped.order_after_put T.Mapped.order_after_removal
+        T.Mapped.slots };
 
     ghost becomes_itself = { λ s.
         edited_none key_before key_of T.Mapped.order_after_put T.Mapped.order_after_removal
