@@ -4,7 +4,7 @@ ghost use Rattle.cif.specs.declared.content.Content.TheVariants.{Schedule as OfS
 ghost use Rattle.cif.specs.declared.identity.Identity.{Identity};
 ghost use Rattle.cif.specs.declared.identity.Identity.TheVariants.{Origin as IsOrigin, Intermediate as IsIntermediate};
 ghost use Rattle.overlay.specs.Overlays.{pending_in};
-ghost use Rattle.extract.specs.declared.stage.Stage.TheVariants.{Idle as IsIdle, Between as IsBetween, Begun as IsBegun, Extra as IsExtra, Running as IsRunning};
+ghost use Rattle.extract.specs.declared.stage.Stage.TheVariants.{Between as IsBetween, Begun as IsBegun, Extra as IsExtra, Running as IsRunning};
 ghost use Rattle.extract.specs.Stages.{next_stage, has_room, is_idle};
 ghost use Rattle.extract.specs.Judging.{Standing, verdict_on, GoesBy};
 ghost use Rattle.extract.specs.Standings.{progress_with, standing, range_in, StandsOn, Passes};

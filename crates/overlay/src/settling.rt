@@ -1,5 +1,5 @@
 //! What is pending, done to the store.
-ghost use Rattle.std.specs.Prelude.{◌≡◌, true, [], ◌∷◌, length};
+ghost use Rattle.std.specs.Prelude.{◌≡◌, true, [], ◌∷◌};
 ghost use Rattle.schedule.specs.Transactions.{is_lawful};
 ghost use Rattle.timetable.specs.Timetables.{IsWithinCapacity};
 ghost use Rattle.overlay.specs.Overlays.{pending_in};
