@@ -1,7 +1,7 @@
 // What a board can be asked to do.
 ghost use Rattle.std.specs.Prelude.{◌≡◌, ◌*◌, ◌≤◌, [], length, Some, None, OnOk, OnErr, slice_get};
 ghost use Rattle.cif.specs.Refusals.{uppermost, fault_of};
-ghost use Rattle.board.specs.Boards.{shown_of, lines_of, line_slots, slots_of, SlotsKept};
+ghost use Rattle.board.specs.Boards.{shown_of, lines_of, slots_of, HasSlots, SlotsKept};
 ghost use Rattle.board.specs.Lines.{BoardOf};
 ghost use Rattle.board.specs.Turning.{shown_for, turn_lines};
 
@@ -34,18 +34,10 @@ impl Board<'_> {
         ensures shown { shown_of result ≡ None }
         ensures lines { lines_of result ≡ [] }
         ensures slots { slots_of result ≡ length slots.old }
-        ensures kept { line_slots result ≡ slots.old }
+        ensures lent { HasSlots slots.entry result }
     {
         let lines = Ordered::new(slots);
         Board { lines, shown: None }
-    }
-
-    /// How many lines it shows.
-    pub fn len(&mut self) -> usize
-        ensures value { result ≡ length (lines_of self.old) }
-        ensures same { self.new ≡ self.old }
-    {
-        self.lines.len()
     }
 
     /// The lines that it shows, in order.

@@ -1,8 +1,10 @@
 //! Scripts of calls, made to installations over both stores.
-ghost use Rattle.std.specs.Prelude.{◌≡◌, IfOk, Ok, length, map, IfErr, Err};
+ghost use Rattle.std.specs.Prelude.{◌≡◌, IfOk, Ok, Some, length, map, IfErr, Err};
 ghost use Rattle.std.specs.Bool.{Decides};
 ghost use Rattle.board.specs.Boards.{lines_of};
-ghost use Rattle.runs.specs.Calls.{call_meant};
+ghost use Rattle.runs.specs.Calls.{call_meant, first_ledger};
+ghost use Rattle.runs.specs.Runs.{Begins};
+ghost use Rattle.runs.specs.Pairs.{WholePromise};
 ghost use Rattle.scripts.specs.Histories.{history_of, histories_in};
 ghost use Rattle.scripts.specs.Steps.{call_of};
 ghost use Rattle.list_tasks.specs.Errors.{NamesLine};
@@ -24,7 +26,7 @@ use scripts::reading::{Unread, histories_in};
 use scripts::step::Step;
 use std::alloc::AllocError;
 use stores::{Bag, Table};
-use timetable::Store;
+use timetable::{Store, Timetable};
 use wording::answers::AnswerWords;
 use wording::words::Text;
 
@@ -79,7 +81,11 @@ impl<'a> RunMemory<'a> {
 fn call_next<S: Store, T: Store>(
     pair: &mut Pair<'_, '_, S, T>,
     side: Side,
-) -> anyhow::Result<Answer> {
+) -> anyhow::Result<Answer>
+    ensures { IfOk result (λ answer.
+        ∥ WholePromise S.meaning T.meaning S.Store.becomes T.Store.becomes first_ledger
+        pair.old pair.new side (Some answer) ∥₁) }
+{
     match pair.call_next(side) {
         Some(answer) => Ok(answer),
         None => Err(anyhow!("a history has fewer calls than lines")),
@@ -209,7 +215,9 @@ fn print_head(
 
 // A run of the calls of a history. It would hand its plan back only over a store that is not empty,
 // or without a place for each answer.
-fn begun<'a, S: Store + Drop>(plan: Plan<'a, S>) -> anyhow::Result<Run<'a, S>> {
+fn begun<'a, S: Store + Drop>(plan: Plan<'a, S>) -> anyhow::Result<Run<'a, S>>
+    ensures { IfOk result (λ run. Begins S.meaning plan.entry run) }
+{
     match Run::new(plan) {
         Ok(run) => Ok(run),
         Err(_) => Err(anyhow!("the calls of a history cannot be made")),
@@ -217,7 +225,7 @@ fn begun<'a, S: Store + Drop>(plan: Plan<'a, S>) -> anyhow::Result<Run<'a, S>> {
 }
 
 // Makes the calls of a history over two stores, and prints what came of them.
-fn print_both<S: Store, T: Store>(
+fn make_and_print<S: Store, T: Store>(
     rt: &HostRuntime,
     history: &History,
     pair: &mut Pair<'_, '_, S, T>,
@@ -247,7 +255,7 @@ fn replay<S: Store + Drop, T: Store + Drop>(
         left: begun(table.plan(first))?,
         right: begun(bag.plan(second))?,
     };
-    print_both(rt, history, &mut pair, counts)
+    make_and_print(rt, history, &mut pair, counts)
 }
 
 // Makes the calls of a history over a table and a bag, and prints what came of them.

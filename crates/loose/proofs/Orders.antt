@@ -6,7 +6,7 @@ use Rattle.maps.specs.Maps.{lookup, map_from, has_distinct_keys}
 use Rattle.maps.specs.Places.{NoneOfKey, StandsFirstAt}
 use Rattle.maps.proofs.Maps.{same_level, lookup_gathered}
 use Rattle.maps.proofs.Heaped.{length_gathered}
-use Rattle.loose.specs.Order.{in_place_or_last, last_takes_place}
+use Rattle.loose.specs.Order.{in_place_or_last, last_in_its_place}
 
 module _ {E K : Type 0} (before : K → K → Bool) (key : E → K) (lawful : Lawful before) where
   -- the first element of the list is of the key, or is passed
@@ -38,20 +38,20 @@ module _ {E K : Type 0} (before : K → K → Bool) (key : E → K) (lawful : La
   stands_last xs ys x k (Err e) of h added kept = kept
 
   -- the last element in the place of the one that goes
-  last_of : (y : E) (ys : List E) (k : K) (i : ℕ) (d : E) → StandsFirstAt before key (y ∷ ys) k i → set (take (length ys) (y ∷ ys)) i (get_or (y ∷ ys) (length ys) d) ≡ last_takes_place before key (y ∷ ys) k
+  last_of : (y : E) (ys : List E) (k : K) (i : ℕ) (d : E) → StandsFirstAt before key (y ∷ ys) k i → set (take (length ys) (y ∷ ys)) i (get_or (y ∷ ys) (length ys) d) ≡ last_in_its_place before key (y ∷ ys) k
   last_of y [] k zero d h = let t = here y [] k h in rw t refl
   last_of y (z ∷ zs) k zero d h = let t = here y (z ∷ zs) k h in rw t (ap (λ l. l ∷ take (length zs) (z ∷ zs)) (get_or_default (z ∷ zs) (length zs) d z (omega arith)))
   last_of y [] k (suc i) d h = let w = h.within in absurd (let z : ⊥ = omega arith in z)
   last_of y (z ∷ zs) k (suc i) d h = let f = later y (z ∷ zs) k i h in rw f (ap (λ ws. y ∷ ws) (last_of z zs k i d (rest y (z ∷ zs) k i h)))
 
-  pub last_stands : (xs ys : List E) (k : K) (i : ℕ) → StandsFirstAt before key xs k i → ((d : E) → ys ≡ set (take (length xs - 1) xs) i (get_or xs (length xs - 1) d)) → ys ≡ last_takes_place before key xs k
+  pub last_stands : (xs ys : List E) (k : K) (i : ℕ) → StandsFirstAt before key xs k i → ((d : E) → ys ≡ set (take (length xs - 1) xs) i (get_or xs (length xs - 1) d)) → ys ≡ last_in_its_place before key xs k
   last_stands [] ys k i h e = let w = h.within in absurd (let z : ⊥ = omega arith in z)
   last_stands (x ∷ xs) ys k i h e =
       let n : length (x ∷ xs) - 1 ≡ length xs = omega arith in
       e x ∙ ap (λ j. set (take j (x ∷ xs)) i (get_or (x ∷ xs) j x)) n ∙ last_of x xs k i x h
 
   -- no element is of the key
-  pub all_stand : (xs : List E) (k : K) → NoneOfKey before key xs k (length xs) → xs ≡ last_takes_place before key xs k
+  pub all_stand : (xs : List E) (k : K) → NoneOfKey before key xs k (length xs) → xs ≡ last_in_its_place before key xs k
   all_stand [] k h = refl
   all_stand (y ∷ ys) k h = let f = h 0 y (omega arith) in rw f (ap (λ zs. y ∷ zs) (all_stand ys k (λ j d l. h (suc j) d (omega arith))))
 

@@ -14,6 +14,6 @@ module _ {E K : Type 0} (before : K → K → Bool) (key : E → K) where
   in_place_or_last (y ∷ ys) x = if same before (key y) (key x) then x ∷ ys else y ∷ in_place_or_last ys x
 
   -- the last element takes the place of the one of the key that is removed, and every other one keeps its place
-  abbrev pub last_takes_place : List E → K → List E
-  last_takes_place [] k = []
-  last_takes_place (y ∷ ys) k = if same before (key y) k then last_first ys else y ∷ last_takes_place ys k
+  abbrev pub last_in_its_place : List E → K → List E
+  last_in_its_place [] k = []
+  last_in_its_place (y ∷ ys) k = if same before (key y) k then last_first ys else y ∷ last_in_its_place ys k

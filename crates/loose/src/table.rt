@@ -1,8 +1,8 @@
 // What a loose table can be asked, and how it changes.
 ghost use Rattle.std.specs.Prelude.{◌≡◌, ℕ, ◌-◌, ◌<◌, [], length, take, slice_index_or, slice_set};
 ghost use Rattle.maps.specs.Maps.{lookup, map_from};
-ghost use Rattle.ordered.specs.Tables.{items, room, RestKept};
-ghost use Rattle.loose.specs.Order.{in_place_or_last, last_takes_place};
+ghost use Rattle.ordered.specs.Tables.{items, room, IsLent, RestKept};
+ghost use Rattle.loose.specs.Order.{in_place_or_last, last_in_its_place};
 ghost use Rattle.loose.specs.Maps.{map_rises, map_fits};
 
 use crate::loose::Loose;
@@ -17,7 +17,7 @@ impl<E: Keyed> Loose<'_, E> {
     pub fn new<'b>(slots: &'b mut [E]) -> Loose<'b, E>
         ensures empty { items result.elements ≡ [] }
         ensures room { room result.elements ≡ length slots.old }
-        ensures kept { result.elements.slots.now ≡ slots.old }
+        ensures lent { IsLent slots.entry result.elements }
     {
         Loose {
             elements: Slots::new(slots),
@@ -33,7 +33,7 @@ impl<E: Keyed> Mapped<E> for Loose<'_, E> {
 
     ghost order_after_put = { in_place_or_last E.Key.before E.keyed };
 
-    ghost order_after_removal = { last_takes_place E.Key.before E.keyed };
+    ghost order_after_removal = { last_in_its_place E.Key.before E.keyed };
 
     ghost rises = { λ t.
         map_rises E.Key.before E.keyed E.Key.irreflexive E.Key.transitive E.Key.total

@@ -1,5 +1,6 @@
 -- What a table of keyed elements does, by the elements that it holds.
 use Rattle.std.specs.Prelude.{◌≡◌, ℕ, Bool, if◌then◌else◌, ◌||◌, List, length, take, drop, is_some, nat_lt}
+use Rattle.std.specs.Borrow.{MutBor}
 use Rattle.maps.specs.Maps.{lookup, with_element, without_element}
 use Rattle.ordered.specs.declared.slots.Slots.{Slots}
 
@@ -27,3 +28,8 @@ pub record RestKept {E : Type 0} (s t : Slots E) : Type 0 where
   pub rest : drop t.len t.slots.now ≡ drop t.len s.slots.now
   pub slots : length t.slots.now ≡ length s.slots.now
   pub lender : t.slots.ghost_name ≡ s.slots.ghost_name
+
+-- slots that a caller lends: they are the caller's, and have what they had
+pub record IsLent {E : Type 0} (lent : MutBor (List E)) (s : Slots E) : Type 0 where
+  pub lender : s.slots.ghost_name ≡ lent.ghost_name
+  pub kept : s.slots.now ≡ lent.now

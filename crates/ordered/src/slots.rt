@@ -13,13 +13,13 @@ pub struct Slots<'a, E> {
 
 impl<E> Slots<'_, E> {
     ghost use Rattle.std.specs.Prelude.{◌≡◌, []};
-    ghost use Rattle.ordered.specs.Tables.{items, room};
+    ghost use Rattle.ordered.specs.Tables.{items, room, IsLent};
 
     /// A list over `slots` that holds nothing, whatever they have in them.
     pub fn new<'b>(slots: &'b mut [E]) -> Slots<'b, E>
         ensures empty { items result ≡ [] }
         ensures room { room result ≡ length slots.old }
-        ensures kept { result.slots.now ≡ slots.old }
+        ensures lent { IsLent slots.entry result }
     {
         Slots { slots, len: 0 }
     }

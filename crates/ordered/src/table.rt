@@ -1,6 +1,6 @@
 // What an ordered table can be asked, and how it changes.
 ghost use Rattle.std.specs.Prelude.{◌≡◌, [], length, Some, codes, slice_get};
-ghost use Rattle.ordered.specs.Tables.{items, room};
+ghost use Rattle.ordered.specs.Tables.{items, room, IsLent};
 ghost use Rattle.maps.specs.Maps.{with_element, without_element};
 ghost use Rattle.ordered.specs.Fits.{items_fit};
 
@@ -30,7 +30,7 @@ impl<E: Keyed> Ordered<'_, E> {
     pub fn new<'b>(slots: &'b mut [E]) -> Ordered<'b, E>
         ensures empty { items result.elements ≡ [] }
         ensures room { room result.elements ≡ length slots.old }
-        ensures kept { result.elements.slots.now ≡ slots.old }
+        ensures lent { IsLent slots.entry result.elements }
     {
         Ordered {
             elements: Slots::new(slots),

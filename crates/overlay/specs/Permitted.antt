@@ -1,4 +1,4 @@
--- Transactions that may be done: those that the table of refusals lets through.
+-- Transactions that may be done: N finds its key absent and room, R and D find it there.
 use Rattle.std.specs.Prelude.{◌≡◌, ◌<◌, true, false, List, [], ◌∷◌, length, ⊤}
 use Rattle.schedule.specs.declared.transaction.Change.{Change}
 use Rattle.schedule.specs.declared.transaction.Change.TheVariants.{New, Revise, Delete}

@@ -16,25 +16,25 @@ as_read (Some uid) (Some stp) (Some from) (Some to) (Some days) =
 as_read _ _ _ _ _ = None
 
 -- a schedule of the train C12345, by the texts of STP letter, first and last day and days run
-abbrev pub run : List ℕ → List ℕ → List ℕ → List ℕ → Option Record
-run letter from to days = as_read (uid_in (codes "C12345")) (stp_in (slice_index letter 0)) (date_in from) (date_in to) (days_run_in days)
+abbrev pub schedule_by : List ℕ → List ℕ → List ℕ → List ℕ → Option Record
+schedule_by letter from to days = as_read (uid_in (codes "C12345")) (stp_in (slice_index letter 0)) (date_in from) (date_in to) (days_run_in days)
 
 -- P from 231211 to 240531 and O from 240304 to 240308 on Mondays to Fridays, C on the Wednesday 240306
 abbrev pub permanent : Option Record
-permanent = run (codes "P") (codes "231211") (codes "240531") (codes "1111100")
+permanent = schedule_by (codes "P") (codes "231211") (codes "240531") (codes "1111100")
 
 abbrev pub overlay : Option Record
-overlay = run (codes "O") (codes "240304") (codes "240308") (codes "1111100")
+overlay = schedule_by (codes "O") (codes "240304") (codes "240308") (codes "1111100")
 
 abbrev pub cancelled : Option Record
-cancelled = run (codes "C") (codes "240306") (codes "240306") (codes "0010000")
+cancelled = schedule_by (codes "C") (codes "240306") (codes "240306") (codes "0010000")
 
 -- a second permanent schedule that begins later, and a new short-term train over the overlay's days
 abbrev pub later : Option Record
-later = run (codes "P") (codes "240226") (codes "240531") (codes "1111100")
+later = schedule_by (codes "P") (codes "240226") (codes "240531") (codes "1111100")
 
 abbrev pub short : Option Record
-short = run (codes "N") (codes "240304") (codes "240308") (codes "1111100")
+short = schedule_by (codes "N") (codes "240304") (codes "240308") (codes "1111100")
 
 -- the map of some schedules, if each was read
 abbrev pub map_of : List (Option Record) → Option (List Record)

@@ -1,11 +1,17 @@
 -- A run, call by call.
-use Rattle.std.proofs.Common.{nat_lt, true, slice_index_or, ◌≡◌, ℕ, zero, suc, ◌+◌, ◌<◌, List, [], ◌∷◌, ◌++◌, length, take, set, Some, sym, ap, ◌∙◌, subst, arith, slice_get}
+use Rattle.std.proofs.Common.{refl, false, None, Option, MatchOption, nat_lt, true, slice_index_or, ◌≡◌, ℕ, zero, suc, ◌+◌, ◌<◌, List, [], ◌∷◌, ◌++◌, length, take, set, Some, sym, ap, ◌∙◌, subst, arith, slice_get}
 use Rattle.std.proofs.lemmas.List.Sums.{fold_push}
 use Rattle.std.proofs.lemmas.Bool.Decides.{nat_tests}
 use Rattle.std.proofs.lemmas.Option.{get_or_from_slice_get, slice_get_within, slice_get-get_or}
-use Rattle.controller.specs.Keeping.{State, KeepsTo, Obeys}
+use Rattle.controller.specs.Keeping.{State, KeepsTo, Obeys, is_confirm}
+use Rattle.controller.specs.declared.fault.ExtractFault.{ExtractFault}
+use Rattle.controller.specs.declared.answer.Answer.TheVariants.{Refused}
+use Rattle.controller.specs.Calls.{Call, Confirm, refusal_of}
+use Rattle.controller.specs.LedgerRows.{RowsAreTaken, AreWhole}
+use Rattle.controller.proofs.Ledgered.{ledgered}
+use Rattle.std.proofs.lemmas.Bool.{false≢true}
 use Rattle.controller.specs.declared.answer.Answer.{Answer}
-use Rattle.controller.specs.Ledger.{Ledger, ledger_after, Entry, ledger_after_all, is_accepted}
+use Rattle.controller.specs.Ledger.{Ledger, ledger_after, Entry, ledger_after_all, is_accepted, standing_of, Accepts, AnswerOf}
 use Rattle.std.specs.Bool.{OnFalse}
 use Rattle.schedule.specs.declared.transaction.Change.{Change}
 use Rattle.timetable.specs.Timetables.{Meaning, StoreEdit}
@@ -14,8 +20,8 @@ use Rattle.board.specs.Boards.{SlotsKept}
 use Rattle.controller.specs.Shown.{progress_in}
 use Rattle.runs.specs.declared.call.Call.{Call as Asked}
 use Rattle.runs.specs.declared.run.Run.{Run}
-use Rattle.runs.specs.Runs.{ledger_of, installation_of, store_in, state_of, GoesOn, MakesNext}
-use Rattle.runs.specs.Calls.{call_meant, edits_by, entries, ledger_at}
+use Rattle.runs.specs.Runs.{ledger_of, installation_of, store_in, state_of, capacity_of, GoesOn, MakesNext}
+use Rattle.runs.specs.Calls.{call_meant, edits_by, Keeps, entries, ledger_at}
 
 -- one call more
 entries_more : (qs : List Asked) (rs : List Answer) (i : ℕ) (q : Asked) (a : Answer) → slice_get qs i ≡ Some q → i < length rs → take (suc i) (entries qs (set rs i a)) ≡ take i (entries qs rs) ++ (call_meant q, is_accepted a) ∷ []
@@ -23,6 +29,29 @@ entries_more [] rs i q a e l = absurd (let w = slice_get_within [] i q e in omeg
 entries_more (x ∷ qs) [] i q a e l = absurd (omega arith)
 entries_more (x ∷ qs) (r ∷ rs) zero q a e l = ap (λ (y : Asked). (call_meant y, is_accepted a) ∷ []) (get_or_from_slice_get (x ∷ qs) zero q x e)
 entries_more (x ∷ qs) (r ∷ rs) (suc i) q a e l = ap (λ (es : List Entry). (call_meant x, is_accepted r) ∷ es) (entries_more qs rs i q a e (omega arith))
+
+-- an answer that accepts a call says that no line of the table of refusals holds
+accepted_free : (ℓ : Ledger) (capacity slots : ℕ) (call : Call) (a : Answer) → AnswerOf ℓ capacity slots call a → is_accepted a ≡ true → refusal_of call (standing_of ℓ capacity) slots ≡ None
+accepted_free ℓ capacity slots call a told h = of (refusal_of call (standing_of ℓ capacity) slots) told
+  where
+    of : (o : Option ExtractFault) → MatchOption o (Accepts ℓ call a) (λ f. a ≡ Refused f) → o ≡ None
+    of None e = refl
+    of (Some f) e = absurd (false≢true (ap is_accepted (sym e) ∙ h))
+
+-- the rows of a confirmed extract are an HD and whole parts
+confirmed_parts : (ℓ : Ledger) (capacity slots : ℕ) (call : Call) (a : Answer) → AnswerOf ℓ capacity slots call a → RowsAreTaken ℓ capacity → is_confirm call ≡ true → is_accepted a ≡ true → AreWhole ℓ
+confirmed_parts ℓ capacity slots Confirm a told rows c h = ledgered.confirmed ℓ capacity slots (accepted_free ℓ capacity slots Confirm a told h) rows
+confirmed_parts ℓ capacity slots call a told rows c h = absurd (false≢true c)
+
+-- a call that obeys is kept to
+keeps_after : (ℓ : Ledger) (s t : State) (call : Call) (a : Answer) → Obeys s t call a → Keeps s ℓ → Keeps t (ledger_after ℓ call (is_accepted a))
+keeps_after ℓ s t call a o k =
+    let obeyed = o.ledger ℓ k.ledger in
+    record {
+      ledger = obeyed.keeps;
+      rows = subst (λ (n : ℕ). RowsAreTaken (ledger_after ℓ call (is_accepted a)) n) (sym o.capacity)
+          (ledgered.kept ℓ s.standing.store.capacity s.slots call a obeyed.told k.rows);
+    }
 
 module _ (first : Ledger) (qs : List Asked) (rs ss : List Answer) (i j : ℕ) (q d : Asked) (a : Answer) (places : length rs ≡ length qs) (there : true ≡ nat_lt i (length qs))
     (is : q ≡ slice_index_or qs i d) (answers : ss ≡ set rs i a) (made : j ≡ i + 1) where
@@ -42,22 +71,23 @@ module _ (first : Ledger) (qs : List Asked) (rs ss : List Answer) (i j : ℕ) (q
       ∙ fold_push (λ (x : Ledger) (y : Entry). ledger_after x y.0 y.1) first (take i (entries qs rs)) (call_meant q, is_accepted a)))
 
   -- a call that obeys keeps to the ledger that has it
-  pub keeps_on : (s t : State) → Obeys s t (call_meant q) a → KeepsTo s (ledger_at first qs rs i) → KeepsTo t (ledger_at first qs ss j)
-  keeps_on s t o k = subst (λ (ℓ : Ledger). KeepsTo t ℓ) (sym written) (o.ledger (ledger_at first qs rs i) k).keeps
+  pub keeps_on : (s t : State) → Obeys s t (call_meant q) a → Keeps s (ledger_at first qs rs i) → Keeps t (ledger_at first qs ss j)
+  keeps_on s t o k = subst (λ (ℓ : Ledger). Keeps t ℓ) (sym written) (keeps_after (ledger_at first qs rs i) s t (call_meant q) a o k)
 
 -- a run whose installation obeys makes its next call
 pub makes_next : {S : Type 0} {M : _} (meaning : S → Meaning) (becomes : S → List StoreEdit → S → Type 0) (first : Ledger) (before after : Run S M) (q d : Asked) (a : Answer)
     → true ≡ nat_lt before.made (length before.calls.now) → q ≡ slice_index_or before.calls.now before.made d → GoesOn before after a
     → Obeys (state_of meaning before) (state_of meaning after) (call_meant q) a → OnFalse (is_accepted a) (installation_of after ≡ installation_of before)
     → becomes (store_in before) (edits_by (call_meant q) (is_accepted a) (progress_in (installation_of before).controller).changes) (store_in after)
-    → SlotsKept (installation_of before).board (installation_of after).board → KeepsTo (state_of meaning before) (ledger_of first before)
-    → MakesNext meaning becomes first before after a
-makes_next meaning becomes first before after q d a there is on obeys unchanged store rest kept =
-    let obeyed = obeys.ledger (ledger_of first before) kept in
+    → (is_confirm (call_meant q) ≡ false → store_in after ≡ store_in before) → SlotsKept (installation_of before).board (installation_of after).board
+    → Keeps (state_of meaning before) (ledger_of first before) → MakesNext meaning becomes first before after a
+makes_next meaning becomes first before after q d a there is on obeys unchanged store stays rest k =
+    let ℓ = ledger_of first before in
+    let obeyed = obeys.ledger ℓ k.ledger in
     let at = stands_at first before.calls.now before.answers.now after.answers.now before.made after.made q d a before.places there is on.answers on.made in
-    let noted : ledger_of first after ≡ ledger_after (ledger_of first before) (call_meant q) (is_accepted a) =
-    ap (λ (c : _). ledger_at first c.now after.answers.now after.made) on.calls
-    ∙ written first before.calls.now before.answers.now after.answers.now before.made after.made q d a before.places there is on.answers on.made in
+    let noted : ledger_of first after ≡ ledger_after ℓ (call_meant q) (is_accepted a) =
+        ap (λ (c : _). ledger_at first c.now after.answers.now after.made) on.calls
+        ∙ written first before.calls.now before.answers.now after.answers.now before.made after.made q d a before.places there is on.answers on.made in
     record {
       call = q;
       next = at;
@@ -65,11 +95,13 @@ makes_next meaning becomes first before after q d a there is on obeys unchanged 
       makes = record {
         told = obeyed.told;
         written = noted;
-        kept = kept;
-        keeps = subst (λ (ℓ : Ledger). KeepsTo (state_of meaning after) ℓ) (sym noted) obeyed.keeps;
+        keeps_before = k.ledger;
+        keeps_after = subst (λ (m : Ledger). KeepsTo (state_of meaning after) m) (sym noted) obeyed.keeps;
         unchanged = unchanged;
         unnamed = obeyed.unnamed;
-        store = subst (λ (cs : List Change). becomes (store_in before) (edits_by (call_meant q) (is_accepted a) cs) (store_in after)) (ap (λ (p : Progress). p.changes) kept.extract.progress) store;
+        parts = confirmed_parts ℓ (capacity_of meaning before) (state_of meaning before).slots (call_meant q) a obeyed.told k.rows;
+        store = subst (λ (cs : List Change). becomes (store_in before) (edits_by (call_meant q) (is_accepted a) cs) (store_in after)) (ap (λ (p : Progress). p.changes) k.ledger.extract.progress) store;
+        store_stays = stays;
         capacity = obeys.capacity;
         slots = obeys.slots;
         rest = rest;

@@ -14,7 +14,7 @@ use Rattle.runs.specs.declared.plan.Plan.{Plan}
 use Rattle.runs.specs.declared.run.Run.{Run}
 use Rattle.runs.specs.Calls.{call_meant, entries, ledger_at}
 use Rattle.runs.specs.Runs.{ledger_of, state_of, capacity_of, Makes, Next, Begins}
-use Rattle.runs.specs.WholeRuns.{ByLedger, FirstCalls, ledger_of_all, RunsAll}
+use Rattle.runs.specs.WholeRuns.{ByLedger, FirstCalls, ledger_of_all, MadeAll, RunsAll}
 use Rattle.runs.proofs.Ledgers.{start_kept}
 
 -- the answer to a later call changes nothing of what was written down before it
@@ -62,7 +62,8 @@ each_more first capacity slots qs rs i q a at within new old k x y l e f =
 
 -- a run that has made so many of the calls of a plan
 pub record SoFar {S : Type 0} {M : _} (meaning : S → Meaning) (first : Ledger) (p : Plan S) (run : Run S M) (n : ℕ) : Type 0 where
-  pub calls : run.calls.now ≡ p.calls.now
+  pub calls : run.calls ≡ p.calls
+  pub lender : run.answers.ghost_name ≡ p.answers.ghost_name
   pub made : run.made ≡ n
   pub each : FirstCalls first (meaning p.store).capacity (length p.slots.now) run.calls.now run.answers.now run.made
   pub capacity : capacity_of meaning run ≡ (meaning p.store).capacity
@@ -70,11 +71,12 @@ pub record SoFar {S : Type 0} {M : _} (meaning : S → Meaning) (first : Ledger)
 
 pub none_made : {S : Type 0} {M : _} (meaning : S → Meaning) (first : Ledger) (p : Plan S) (run : Run S M) → Begins meaning p run → SoFar meaning first p run 0
 none_made meaning first p run b = record {
-  calls = ap (λ (c : _). c.now) b.calls;
+  calls = b.calls;
+  lender = ap (λ (a : _). a.ghost_name) b.answers;
   made = b.made;
   each = λ k call answer l e f. absurd (let m = b.made in omega arith);
   capacity = ap (λ (s : _). (meaning s).capacity) b.store;
-  slots = ap length b.slots;
+  slots = ap length b.slots.kept;
 }
 
 -- what a call that is made says, by the ledger
@@ -86,24 +88,25 @@ by_ledger meaning becomes first before after q a capacity slots c n m =
     (record {
       told = m.told;
       before = (state_of meaning before).lines;
-      shown_before = m.kept.lines;
+      shown_before = m.keeps_before.lines;
       after = (state_of meaning after).lines;
-      shown_after = subst (λ (ℓ : Ledger). LinesOf ℓ (state_of meaning after).lines) m.written m.keeps.lines;
+      shown_after = subst (λ (ℓ : Ledger). LinesOf ℓ (state_of meaning after).lines) m.written m.keeps_after.lines;
       unnamed = m.unnamed;
     }))
 
 pub one_more : {S : Type 0} {M : _} (meaning : S → Meaning) (becomes : S → List StoreEdit → S → Type 0) (first : Ledger) (p : Plan S) (before after : Run S M) (answer : Option Answer) (n : ℕ)
     → n < length p.calls.now → SoFar meaning first p before n → Next meaning becomes first before after answer → SoFar meaning first p after (n + 1)
-one_more meaning becomes first p before after None n l s next = absurd (let a = next.none_left in let b = s.made in let c : length before.calls.now ≡ length p.calls.now = ap length s.calls in omega arith)
+one_more meaning becomes first p before after None n l s next = absurd (let a = next.none_left in let b = s.made in let c : length before.calls.now ≡ length p.calls.now = ap (λ (c : _). length c.now) s.calls in omega arith)
 one_more meaning becomes first p before after (Some a) n l s next =
     let capacity = (meaning p.store).capacity in
     let slots = length p.slots.now in
     let within : before.made < length before.answers.now =
-    (let b = s.made in let c : length before.calls.now ≡ length p.calls.now = ap length s.calls in let d = before.places in omega arith) in
+    (let b = s.made in let c : length before.calls.now ≡ length p.calls.now = ap (λ (c : _). length c.now) s.calls in let d = before.places in omega arith) in
     let more = each_more first capacity slots before.calls.now before.answers.now before.made next.call a next.next within
     (by_ledger meaning becomes first before after next.call a capacity slots s.capacity s.slots next.makes) s.each in
     record {
-      calls = ap (λ (c : _). c.now) next.goes_on.calls ∙ s.calls;
+      calls = next.goes_on.calls ∙ s.calls;
+      lender = next.goes_on.lender ∙ s.lender;
       made = next.goes_on.made ∙ ap (λ (m : ℕ). m + 1) s.made;
       each =
           subst (λ (m : ℕ). FirstCalls first capacity slots after.calls.now after.answers.now m) (sym next.goes_on.made)
@@ -124,11 +127,11 @@ all_confirmed s first es capacity e k =
 pub all_made : {S : Type 0} {M : _} (meaning : S → Meaning) (first : Ledger) (p : Plan S) (run : Run S M) (n : ℕ) → length p.calls.now ≤ n → SoFar meaning first p run n
     → KeepsTo (state_of meaning run) (ledger_of first run) → RunsAll first (meaning p.store).capacity (length p.slots.now) p.calls.now run.answers.now (state_of meaning run)
 all_made meaning first p run n l s k =
-    let places : length run.answers.now ≡ length p.calls.now = run.places ∙ ap length s.calls in
-    let same : ledger_of first run ≡ ledger_at first p.calls.now run.answers.now run.made = ap (λ (qs : List Asked). ledger_at first qs run.answers.now run.made) s.calls in
+    let places : length run.answers.now ≡ length p.calls.now = run.places ∙ ap (λ (c : _). length c.now) s.calls in
+    let same : ledger_of first run ≡ ledger_at first p.calls.now run.answers.now run.made = ap (λ (c : _). ledger_at first c.now run.answers.now run.made) s.calls in
     let all : ledger_of first run ≡ ledger_of_all first p.calls.now run.answers.now = same ∙ ledger_all first p.calls.now run.answers.now run.made places (let m = s.made in omega arith) in
     let keeps : KeepsTo (state_of meaning run) (ledger_of_all first p.calls.now run.answers.now) = subst (λ (ℓ : Ledger). KeepsTo (state_of meaning run) ℓ) all k in
-    let each = subst (λ (qs : List Asked). FirstCalls first (meaning p.store).capacity (length p.slots.now) qs run.answers.now run.made) s.calls s.each in
+    let each = subst (λ (qs : List Asked). FirstCalls first (meaning p.store).capacity (length p.slots.now) qs run.answers.now run.made) (ap (λ (c : _). c.now) s.calls) s.each in
     record {
       places = places;
       each = λ i call answer w e f. each i call answer (let m = s.made in omega arith) e f;
@@ -137,6 +140,10 @@ all_made meaning first p run n l s k =
       capacity_stays = s.capacity;
       slots_stay = s.slots;
     }
+
+pub made_all : {S : Type 0} {M : _} (meaning : S → Meaning) (first : Ledger) (p : Plan S) (run : Run S M) (n : ℕ) → length p.calls.now ≤ n → n ≤ length p.calls.now
+    → SoFar meaning first p run n → MadeAll p run
+made_all meaning first p run n l m s = record { calls = s.calls; made = (let e = s.made in omega arith); lender = s.lender }
 
 -- where both were run
 pub both_ok : {X Y Z W : Type 0} (r : Result X Y) (t : Result Z W) (P : X → Type 0) (Q : Y → Type 0) (R : Z → Type 0) (V : W → Type 0) (G : X → Z → Type 0)

@@ -6,7 +6,8 @@ use Rattle.overlay.specs.Settling.{edits_of}
 use Rattle.controller.specs.declared.answer.Answer.{Answer}
 use Rattle.controller.specs.Calls.{Call, Open, Row, Confirm, Abandon, Turn, Tell, Tally}
 use Rattle.controller.specs.Ledger.{Ledger, new_ledger, Entry, ledger_after_all, is_accepted}
-use Rattle.controller.specs.Keeping.{State, state_in}
+use Rattle.controller.specs.Keeping.{State, state_in, KeepsTo}
+use Rattle.controller.specs.LedgerRows.{RowsAreTaken}
 use Rattle.runs.specs.declared.call.Call.{Call as Asked}
 use Rattle.runs.specs.declared.call.Call.TheVariants.{Open as AsksOpen, Row as AsksRow, Confirm as AsksConfirm, Abandon as AsksAbandon, Turn as AsksTurn, Tell as AsksTell, Tally as AsksTally}
 use Rattle.runs.specs.declared.installation.Installation.{Installation}
@@ -44,3 +45,8 @@ first_ledger = new_ledger []
 -- the ledger that is begun with, after the first k of some calls
 abbrev pub ledger_at : Ledger → List Asked → List Answer → ℕ → Ledger
 ledger_at first calls answers k = ledger_after_all first (take k (entries calls answers))
+
+-- an installation keeps to a ledger, and the rows of the ledger were taken: first an HD by open, and then each other one by row
+pub record Keeps (s : State) (ℓ : Ledger) : Type 0 where
+  pub ledger : KeepsTo s ℓ
+  pub rows : RowsAreTaken ℓ s.standing.store.capacity

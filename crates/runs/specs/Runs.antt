@@ -1,15 +1,16 @@
 -- Installations that are asked one call after another, each begun new.
-use Rattle.std.specs.Prelude.{◌≡◌, ℕ, ◌+◌, ◌≤◌, Bool, true, List, [], length, set, Some, Option, Result, MatchOption, MatchResult, slice_get}
+use Rattle.std.specs.Prelude.{◌≡◌, ℕ, ◌+◌, ◌≤◌, Bool, true, false, List, [], length, set, Some, Option, Result, MatchOption, MatchResult, slice_get}
 use Rattle.std.specs.Bool.{OnFalse}
 use Rattle.timetable.specs.Timetables.{Meaning, StoreEdit}
 use Rattle.extract.specs.Progress.{transactions_of}
-use Rattle.board.specs.Boards.{line_slots, SlotsKept}
+use Rattle.board.specs.Boards.{HasSlots, SlotsKept}
 use Rattle.board.specs.Strikes.{lines_without}
 use Rattle.controller.specs.declared.answer.Answer.{Answer}
 use Rattle.controller.specs.Shown.{store_of}
 use Rattle.controller.specs.Calls.{Call}
 use Rattle.controller.specs.Ledger.{Ledger, ledger_after, AnswerOf, is_accepted, has_train}
 use Rattle.controller.specs.Keeping.{State, KeepsTo, is_confirm}
+use Rattle.controller.specs.LedgerRows.{AreWhole}
 use Rattle.runs.specs.Calls.{call_meant, edits_by, stands, ledger_at}
 use Rattle.runs.specs.declared.installation.Installation.{Installation}
 use Rattle.runs.specs.declared.call.Call.{Call as Asked}
@@ -51,8 +52,8 @@ pub record Makes {S : Type 0} {M : _} (meaning : S → Meaning) (becomes : S →
   -- it is written down
   pub written : ledger_of first after ≡ ledger_after (ledger_of first before) call (is_accepted answer)
   -- the store's map, the tally and the board's lines in order, before it and after it, are those that the ledger then works out afresh
-  pub kept : KeepsTo (state_of meaning before) (ledger_of first before)
-  pub keeps : KeepsTo (state_of meaning after) (ledger_of first after)
+  pub keeps_before : KeepsTo (state_of meaning before) (ledger_of first before)
+  pub keeps_after : KeepsTo (state_of meaning after) (ledger_of first after)
   -- a refused call leaves controller, board and every slot the values that they were
   pub unchanged : OnFalse (is_accepted answer) (after.installation ≡ before.installation)
   -- around an accepted confirm the lines of the trains that the extract does not name are the same list
@@ -60,19 +61,23 @@ pub record Makes {S : Type 0} {M : _} (meaning : S → Meaning) (becomes : S →
       is_confirm call ≡ true → is_accepted answer ≡ true
       → lines_without (named_in (ledger_of first before)) (state_of meaning before).lines
       ≡ lines_without (named_in (ledger_of first before)) (state_of meaning after).lines
-  -- the store becomes what the puts and removals of the confirmed transactions make of it; any other call leaves it the same
+  -- the rows of a confirmed extract are an HD and whole parts, and its transactions are those of the parts
+  pub parts : is_confirm call ≡ true → is_accepted answer ≡ true → AreWhole (ledger_of first before)
+  -- the store becomes what the puts and removals of the confirmed transactions make of it; any other call leaves it the value that it was
   pub store :
       becomes (store_in before) (edits_by call (is_accepted answer) (transactions_of (ledger_of first before).rows)) (store_in after)
+  pub store_stays : is_confirm call ≡ false → store_in after ≡ store_in before
   -- capacity and line slots stay, and the slots past the board's last line keep what they had
   pub capacity : capacity_of meaning after ≡ capacity_of meaning before
   pub slots : (state_of meaning after).slots ≡ (state_of meaning before).slots
   pub rest : SlotsKept before.installation.board after.installation.board
 
--- the calls of a run stay, one more is made, and its answer is in its place
+-- the calls of a run stay, one more is made, and its answer is in its place, among those that the run was lent
 pub record GoesOn {S : Type 0} {M : _} (before after : Run S M) (answer : Answer) : Type 0 where
   pub calls : after.calls ≡ before.calls
   pub made : after.made ≡ before.made + 1
   pub answers : after.answers.now ≡ set before.answers.now before.made answer
+  pub lender : after.answers.ghost_name ≡ before.answers.ghost_name
 
 -- a run makes its next call
 pub record MakesNext {S : Type 0} {M : _} (meaning : S → Meaning) (becomes : S → List StoreEdit → S → Type 0) (first : Ledger) (before after : Run S M) (answer : Answer) : Type 0 where
@@ -96,14 +101,14 @@ pub record Suits {S : Type 0} (meaning : S → Meaning) (p : Plan S) : Type 0 wh
   pub empty : (meaning p.store).map ≡ []
   pub places : length p.answers.now ≡ length p.calls.now
 
--- a run begins: no call is made, and store and board are those of the plan
+-- a run begins: no call is made, and the store, the line slots and the places for answers are those of the plan, as they were
 pub record Begins {S : Type 0} {M : _} (meaning : S → Meaning) (p : Plan S) (run : Run S M) : Type 0 where
   pub suits : Suits meaning p
   pub calls : run.calls ≡ p.calls
   pub answers : run.answers ≡ p.answers
   pub made : run.made ≡ 0
   pub store : store_in run ≡ p.store
-  pub slots : line_slots (installation_of run).board ≡ p.slots.now
+  pub slots : HasSlots p.slots (installation_of run).board
 
 -- a run begins, or its plan cannot be run and is handed back as it was
 abbrev pub BegunFrom : {S : Type 0} {M : _} → (S → Meaning) → Plan S → Result (Run S M) (Plan S) → Type 0

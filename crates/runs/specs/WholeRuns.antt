@@ -48,11 +48,17 @@ pub record RunsAll (first : Ledger) (capacity slots : ℕ) (calls : List Asked) 
   pub capacity_stays : end.standing.store.capacity ≡ capacity
   pub slots_stay : end.slots ≡ slots
 
+-- a run has made all calls of its plan, and the answers are in the places that the plan lent
+pub record MadeAll {S : Type 0} {M : _} (p : Plan S) (run : Run S M) : Type 0 where
+  pub calls : run.calls ≡ p.calls
+  pub made : run.made ≡ length p.calls.now
+  pub lender : run.answers.ghost_name ≡ p.answers.ghost_name
+
 -- a plan is run, or it cannot be and is handed back as it was
 abbrev pub RunOf : {S : Type 0} {M : _} → (S → Meaning) → Ledger → Plan S → Result (Run S M) (Plan S) → Type 0
 RunOf meaning first p r =
     MatchResult r
-    (λ run. Suits meaning p
+    (λ run. Suits meaning p × MadeAll p run
     × RunsAll first (meaning p.store).capacity (length p.slots.now) p.calls.now run.answers.now (state_of meaning run))
     (λ back. (back ≡ p) × (Suits meaning p → ⊥))
 

@@ -1,10 +1,10 @@
 // A controller with its board.
-ghost use Rattle.std.specs.Prelude.{◌≡◌, length};
+ghost use Rattle.std.specs.Prelude.{◌≡◌, false};
 ghost use Rattle.std.specs.Bool.{OnFalse};
 ghost use Rattle.timetable.specs.Timetables.{IsWithinCapacity};
-ghost use Rattle.board.specs.Boards.{line_slots, SlotsKept};
+ghost use Rattle.board.specs.Boards.{HasSlots, SlotsKept};
 ghost use Rattle.controller.specs.Ledger.{new_ledger, is_accepted};
-ghost use Rattle.controller.specs.Keeping.{KeepsTo, Obeys};
+ghost use Rattle.controller.specs.Keeping.{KeepsTo, Obeys, is_confirm};
 ghost use Rattle.controller.specs.Shown.{store_of, progress_in};
 ghost use Rattle.runs.specs.Calls.{call_meant, edits_by, stands};
 
@@ -29,7 +29,7 @@ impl<'a, S: Store> Installation<'a, S> {
         ensures keeps { IsWithinCapacity (S.meaning store)
             → KeepsTo (stands S.meaning result) (new_ledger (S.meaning store).map) }
         ensures store { store_of result.controller ≡ store }
-        ensures slots { line_slots result.board ≡ slots.old }
+        ensures slots { HasSlots slots.entry result.board }
     {
         Installation {
             controller: Controller::new(store),
@@ -46,6 +46,8 @@ impl<'a, S: Store> Installation<'a, S> {
             (edits_by (call_meant call.now) (is_accepted result)
             (progress_in self.old.controller).changes)
             (store_of self.new.controller) }
+        ensures stays { is_confirm (call_meant call.now) ≡ false
+            → store_of self.new.controller ≡ store_of self.old.controller }
         ensures rest { SlotsKept self.old.board self.new.board }
     {
         match call {

@@ -1,11 +1,11 @@
 // An installation that is asked one call after another.
-ghost use Rattle.std.specs.Prelude.{◌≡◌, ◌+◌, ◌<◌, length, set};
-ghost use Rattle.controller.specs.Keeping.{KeepsTo, Obeys};
+ghost use Rattle.std.specs.Prelude.{◌≡◌, ◌+◌, ◌<◌, false, length, set};
+ghost use Rattle.controller.specs.Keeping.{Obeys, is_confirm};
 ghost use Rattle.std.specs.Bool.{OnFalse};
 ghost use Rattle.board.specs.Boards.{SlotsKept};
 ghost use Rattle.controller.specs.Ledger.{is_accepted};
 ghost use Rattle.controller.specs.Shown.{store_of, progress_in};
-ghost use Rattle.runs.specs.Calls.{call_meant, edits_by, stands, first_ledger, ledger_at};
+ghost use Rattle.runs.specs.Calls.{call_meant, edits_by, stands, Keeps, first_ledger, ledger_at};
 
 use crate::call::Call;
 use crate::installation::Installation;
@@ -16,8 +16,8 @@ use timetable::{Store, Timetable};
 /// An installation with the calls that it is asked, in order: those that were made, and the answer to each.
 #[derive(Drop)]
 pub struct Run<'a, S: Timetable> {
-    /// The controller and its board.
-    pub(crate) installation: Installation<'a, S>,
+    // The controller and its board.
+    installation: Installation<'a, S>,
     // The calls, in order.
     calls: &'a [Call<'a>],
     // The answers to the calls that were made, in order, and places for the others.
@@ -25,11 +25,12 @@ pub struct Run<'a, S: Timetable> {
     // How many of the calls were made.
     made: usize,
     ghost places: { length answers.now ≡ length calls.now },
-    ghost keeps: { ∥ KeepsTo (stands S.meaning installation)
+    ghost keeps: { ∥ Keeps (stands S.meaning installation)
         (ledger_at first_ledger calls.now answers.now made) ∥₁ },
 }
 
-// Does a call, and writes its answer down in the place that is next.
+// Does a call, and writes its answer down in the place that is next. It stands by itself, since a run keeps to its ledger only when
+// all three have changed.
 fn make<S: Store>(
     installation: &mut Installation<'_, S>,
     call: &Call<'_>,
@@ -44,6 +45,8 @@ fn make<S: Store>(
         (edits_by (call_meant call.now) (is_accepted result)
         (progress_in installation.old.controller).changes)
         (store_of installation.new.controller) }
+    ensures stays { is_confirm (call_meant call.now) ≡ false
+        → store_of installation.new.controller ≡ store_of installation.old.controller }
     ensures rest { SlotsKept installation.old.board installation.new.board }
     ensures answers { answers.new ≡ set answers.old made.old result }
     ensures made { made.new ≡ made.old + 1 }

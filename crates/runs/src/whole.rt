@@ -1,4 +1,4 @@
-// Whole runs: all calls of a plan.
+// Whole runs: what call by call comes to when all calls of a plan are made.
 ghost use Rattle.runs.specs.Calls.{first_ledger};
 ghost use Rattle.runs.specs.WholeRuns.{RunOf, BothRuns};
 

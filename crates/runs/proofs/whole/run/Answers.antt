@@ -1,6 +1,6 @@
 use Rattle.std.proofs.Math.Logic.{∥∥₁_elim, ∥∥₁_map, ∥∥₁_prop}
 use Rattle.runs.specs.Calls.{first_ledger}
-use Rattle.runs.proofs.WholeRuns.{none_made, one_more, all_made}
+use Rattle.runs.proofs.WholeRuns.{none_made, one_more, made_all, all_made}
 use Rattle.runs.proofs.whole.run.Goals as goal
 
 pub loop-init : goal.loop-init
@@ -15,5 +15,6 @@ pub returns : goal.returns
 returns g c =
     ∥∥₁_elim c.loop.invariant ∥∥₁_prop (λ s. ∥∥₁_map c.loop.run.keeps (λ k. (
       c.in_ok-run.ensures.suits,
-      all_made g.S.Timetable.meaning first_ledger c.args.plan c.loop.run c.loop.index c.loop-test.false s k,
+      made_all g.S.Timetable.meaning first_ledger c.args.plan c.loop.run c.loop.index c.loop-test.false c.loop.auto.index-end s,
+      all_made g.S.Timetable.meaning first_ledger c.args.plan c.loop.run c.loop.index c.loop-test.false s k.ledger,
     )))

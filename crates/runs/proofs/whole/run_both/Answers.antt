@@ -12,6 +12,6 @@ returns g c =
       right = right;
       alike = both_ok c.run.result c.run-2.result _ _ _ _ _
           (λ a b p q. same_boards (state_of g.S.Timetable.meaning a) (state_of g.T.Timetable.meaning b) first_ledger
-          (entries c.args.left.calls.now a.answers.now) (entries c.args.right.calls.now b.answers.now) no_map p.1.keeps q.1.keeps)
+          (entries c.args.left.calls.now a.answers.now) (entries c.args.right.calls.now b.answers.now) no_map p.2.keeps q.2.keeps)
           left right;
     }))

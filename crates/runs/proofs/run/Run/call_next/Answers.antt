@@ -22,4 +22,4 @@ returns g c =
     let at = c.in_ok-call.ensures.lookup in
     ∥∥₁_map c.args.self.now.keeps
     (makes_next g.S.Timetable.meaning g.S.Store.becomes first_ledger c.args.self.now _ c.in_ok-call.call.now _ c.make.result
-    at.0 at.1 (record { calls = refl; made = made.made; answers = made.answers }) made.obeys made.unchanged made.store made.rest)
+    at.0 at.1 (record { calls = refl; made = made.made; answers = made.answers; lender = refl }) made.obeys made.unchanged made.store made.stays made.rest)
