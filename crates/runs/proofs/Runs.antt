@@ -21,7 +21,7 @@ use Rattle.controller.specs.Shown.{progress_in}
 use Rattle.runs.specs.declared.call.Call.{Call as Asked}
 use Rattle.runs.specs.declared.run.Run.{Run}
 use Rattle.runs.specs.Runs.{ledger_of, installation_of, store_in, state_of, capacity_of, GoesOn, MakesNext}
-use Rattle.runs.specs.Calls.{call_meant, edits_by, Keeps, entries, ledger_at}
+use Rattle.runs.specs.Calls.{call_meant, edits_by, Does, Keeps, entries, ledger_at}
 
 -- one call more
 entries_more : (qs : List Asked) (rs : List Answer) (i : ℕ) (q : Asked) (a : Answer) → slice_get qs i ≡ Some q → i < length rs → take (suc i) (entries qs (set rs i a)) ≡ take i (entries qs rs) ++ (call_meant q, is_accepted a) ∷ []
@@ -77,13 +77,10 @@ module _ (first : Ledger) (qs : List Asked) (rs ss : List Answer) (i j : ℕ) (q
 -- a run whose installation obeys makes its next call
 pub makes_next : {S : Type 0} {M : _} (meaning : S → Meaning) (becomes : S → List StoreEdit → S → Type 0) (first : Ledger) (before after : Run S M) (q d : Asked) (a : Answer)
     → true ≡ nat_lt before.made (length before.calls.now) → q ≡ slice_index_or before.calls.now before.made d → GoesOn before after a
-    → Obeys (state_of meaning before) (state_of meaning after) (call_meant q) a → OnFalse (is_accepted a) (installation_of after ≡ installation_of before)
-    → becomes (store_in before) (edits_by (call_meant q) (is_accepted a) (progress_in (installation_of before).controller).changes) (store_in after)
-    → (is_confirm (call_meant q) ≡ false → store_in after ≡ store_in before) → SlotsKept (installation_of before).board (installation_of after).board
-    → Keeps (state_of meaning before) (ledger_of first before) → MakesNext meaning becomes first before after a
-makes_next meaning becomes first before after q d a there is on obeys unchanged store stays rest k =
+    → Does meaning becomes (installation_of before) (installation_of after) (call_meant q) a → Keeps (state_of meaning before) (ledger_of first before) → MakesNext meaning becomes first before after a
+makes_next meaning becomes first before after q d a there is on does k =
     let ℓ = ledger_of first before in
-    let obeyed = obeys.ledger ℓ k.ledger in
+    let obeyed = does.obeys.ledger ℓ k.ledger in
     let at = stands_at first before.calls.now before.answers.now after.answers.now before.made after.made q d a before.places there is on.answers on.made in
     let noted : ledger_of first after ≡ ledger_after ℓ (call_meant q) (is_accepted a) =
         ap (λ (c : _). ledger_at first c.now after.answers.now after.made) on.calls
@@ -97,13 +94,13 @@ makes_next meaning becomes first before after q d a there is on obeys unchanged 
         written = noted;
         keeps_before = k.ledger;
         keeps_after = subst (λ (m : Ledger). KeepsTo (state_of meaning after) m) (sym noted) obeyed.keeps;
-        unchanged = unchanged;
+        unchanged = does.unchanged;
         unnamed = obeyed.unnamed;
         parts = confirmed_parts ℓ (capacity_of meaning before) (state_of meaning before).slots (call_meant q) a obeyed.told k.rows;
-        store = subst (λ (cs : List Change). becomes (store_in before) (edits_by (call_meant q) (is_accepted a) cs) (store_in after)) (ap (λ (p : Progress). p.changes) k.ledger.extract.progress) store;
-        store_stays = stays;
-        capacity = obeys.capacity;
-        slots = obeys.slots;
-        rest = rest;
+        store = subst (λ (cs : List Change). becomes (store_in before) (edits_by (call_meant q) (is_accepted a) cs) (store_in after)) (ap (λ (p : Progress). p.changes) k.ledger.extract.progress) does.store;
+        store_stays = does.store_stays;
+        capacity = does.obeys.capacity;
+        slots = does.obeys.slots;
+        rest = does.rest;
       };
     }

@@ -1,12 +1,15 @@
 -- Calls as values, how an installation stands, and the ledger of the calls that were made.
-use Rattle.std.specs.Prelude.{ℕ, Bool, true, List, [], ◌∷◌, take}
+use Rattle.std.specs.Prelude.{◌≡◌, ℕ, Bool, true, false, List, [], ◌∷◌, take}
 use Rattle.schedule.specs.declared.transaction.Change.{Change}
 use Rattle.timetable.specs.Timetables.{Meaning, StoreEdit}
 use Rattle.overlay.specs.Settling.{edits_of}
 use Rattle.controller.specs.declared.answer.Answer.{Answer}
 use Rattle.controller.specs.Calls.{Call, Open, Row, Confirm, Abandon, Turn, Tell, Tally}
 use Rattle.controller.specs.Ledger.{Ledger, new_ledger, Entry, ledger_after_all, is_accepted}
-use Rattle.controller.specs.Keeping.{State, state_in, KeepsTo}
+use Rattle.controller.specs.Keeping.{State, state_in, KeepsTo, Obeys, is_confirm}
+use Rattle.controller.specs.Shown.{store_of, progress_in}
+use Rattle.board.specs.Boards.{SlotsKept}
+use Rattle.std.specs.Bool.{OnFalse}
 use Rattle.controller.specs.LedgerRows.{RowsAreTaken}
 use Rattle.runs.specs.declared.call.Call.{Call as Asked}
 use Rattle.runs.specs.declared.call.Call.TheVariants.{Open as AsksOpen, Row as AsksRow, Confirm as AsksConfirm, Abandon as AsksAbandon, Turn as AsksTurn, Tell as AsksTell, Tally as AsksTally}
@@ -31,6 +34,16 @@ stands meaning i = state_in meaning i.controller i.board
 abbrev pub edits_by : Call → Bool → List Change → List StoreEdit
 edits_by Confirm true pending = edits_of pending
 edits_by _ _ pending = []
+
+-- what a call does to an installation: it obeys the ledger, a refused call changes nothing, the store becomes what the confirmed
+-- transactions make of it or stays the value that it was, and the slots past the board's last line keep what they had
+pub record Does {S : Type 0} (meaning : S → Meaning) (becomes : S → List StoreEdit → S → Type 0) (before after : Installation S) (call : Call) (answer : Answer) : Type 0 where
+  pub obeys : Obeys (stands meaning before) (stands meaning after) call answer
+  pub unchanged : OnFalse (is_accepted answer) (after ≡ before)
+  pub store :
+      becomes (store_of before.controller) (edits_by call (is_accepted answer) (progress_in before.controller).changes) (store_of after.controller)
+  pub store_stays : is_confirm call ≡ false → store_of after.controller ≡ store_of before.controller
+  pub rest : SlotsKept before.board after.board
 
 -- calls as they are written down: each with whether its answer says that it was accepted
 abbrev pub entries : List Asked → List Answer → List Entry

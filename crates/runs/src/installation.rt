@@ -1,12 +1,11 @@
 // A controller with its board.
-ghost use Rattle.std.specs.Prelude.{◌≡◌, false};
-ghost use Rattle.std.specs.Bool.{OnFalse};
+ghost use Rattle.std.specs.Prelude.{◌≡◌};
 ghost use Rattle.timetable.specs.Timetables.{IsWithinCapacity};
-ghost use Rattle.board.specs.Boards.{HasSlots, SlotsKept};
-ghost use Rattle.controller.specs.Ledger.{new_ledger, is_accepted};
-ghost use Rattle.controller.specs.Keeping.{KeepsTo, Obeys, is_confirm};
-ghost use Rattle.controller.specs.Shown.{store_of, progress_in};
-ghost use Rattle.runs.specs.Calls.{call_meant, edits_by, stands};
+ghost use Rattle.board.specs.Boards.{HasSlots};
+ghost use Rattle.controller.specs.Ledger.{new_ledger};
+ghost use Rattle.controller.specs.Keeping.{KeepsTo};
+ghost use Rattle.controller.specs.Shown.{store_of};
+ghost use Rattle.runs.specs.Calls.{call_meant, stands, Does};
 
 use crate::call::Call;
 use board::display::Board;
@@ -37,18 +36,9 @@ impl<'a, S: Store> Installation<'a, S> {
         }
     }
 
-    /// Does one call, whichever it is. A refused call leaves controller and board as they were.
+    /// Does one call, whichever it is. What is refused, and with what, is in docs/refusals.md; then controller and board stay as they were.
     pub fn call(&mut self, call: &Call<'_>) -> Answer
-        ensures obeys { Obeys (stands S.meaning self.old) (stands S.meaning self.new)
-            (call_meant call.now) result }
-        ensures unchanged { OnFalse (is_accepted result) (self.new ≡ self.old) }
-        ensures store { S.Store.becomes (store_of self.old.controller)
-            (edits_by (call_meant call.now) (is_accepted result)
-            (progress_in self.old.controller).changes)
-            (store_of self.new.controller) }
-        ensures stays { is_confirm (call_meant call.now) ≡ false
-            → store_of self.new.controller ≡ store_of self.old.controller }
-        ensures rest { SlotsKept self.old.board self.new.board }
+        ensures { Does S.meaning S.Store.becomes self.old self.new (call_meant call.now) result }
     {
         match call {
             Call::Open(row) => Answer::from(self.controller.open(row)),

@@ -1,11 +1,6 @@
 // An installation that is asked one call after another.
-ghost use Rattle.std.specs.Prelude.{◌≡◌, ◌+◌, ◌<◌, false, length, set};
-ghost use Rattle.controller.specs.Keeping.{Obeys, is_confirm};
-ghost use Rattle.std.specs.Bool.{OnFalse};
-ghost use Rattle.board.specs.Boards.{SlotsKept};
-ghost use Rattle.controller.specs.Ledger.{is_accepted};
-ghost use Rattle.controller.specs.Shown.{store_of, progress_in};
-ghost use Rattle.runs.specs.Calls.{call_meant, edits_by, stands, Keeps, first_ledger, ledger_at};
+ghost use Rattle.std.specs.Prelude.{◌≡◌, ◌+◌, ◌<◌, length, set};
+ghost use Rattle.runs.specs.Calls.{call_meant, Does, stands, Keeps, first_ledger, ledger_at};
 
 use crate::call::Call;
 use crate::installation::Installation;
@@ -38,16 +33,8 @@ fn make<S: Store>(
     made: &mut usize,
 ) -> Answer
     requires { made.old < length answers.old }
-    ensures obeys { Obeys (stands S.meaning installation.old) (stands S.meaning installation.new)
+    ensures does { Does S.meaning S.Store.becomes installation.old installation.new
         (call_meant call.now) result }
-    ensures unchanged { OnFalse (is_accepted result) (installation.new ≡ installation.old) }
-    ensures store { S.Store.becomes (store_of installation.old.controller)
-        (edits_by (call_meant call.now) (is_accepted result)
-        (progress_in installation.old.controller).changes)
-        (store_of installation.new.controller) }
-    ensures stays { is_confirm (call_meant call.now) ≡ false
-        → store_of installation.new.controller ≡ store_of installation.old.controller }
-    ensures rest { SlotsKept installation.old.board installation.new.board }
     ensures answers { answers.new ≡ set answers.old made.old result }
     ensures made { made.new ≡ made.old + 1 }
 {

@@ -14,7 +14,7 @@ invariant_of-self-clause-keeps g c =
     let at = c.in_ok-call.ensures.lookup in
     ∥∥₁_map run.keeps (λ k.
     keeps_on first_ledger run.calls.now run.answers.now c.make.new.answers run.made c.make.new.made c.in_ok-call.call.now _ c.make.result run.places at.0 at.1 made.answers made.made
-    (stands g.S.Timetable.meaning run.installation) (stands g.S.Timetable.meaning c.make.new.installation) made.obeys k)
+    (stands g.S.Timetable.meaning run.installation) (stands g.S.Timetable.meaning c.make.new.installation) made.does.obeys k)
 
 pub returns : goal.returns
 returns g c =
@@ -22,4 +22,4 @@ returns g c =
     let at = c.in_ok-call.ensures.lookup in
     ∥∥₁_map c.args.self.now.keeps
     (makes_next g.S.Timetable.meaning g.S.Store.becomes first_ledger c.args.self.now _ c.in_ok-call.call.now _ c.make.result
-    at.0 at.1 (record { calls = refl; made = made.made; answers = made.answers; lender = refl }) made.obeys made.unchanged made.store made.stays made.rest)
+    at.0 at.1 (record { calls = refl; made = made.made; answers = made.answers; lender = refl }) made.does)
