@@ -1,7 +1,8 @@
 -- The rows of a ledger were taken.
-use Rattle.std.proofs.Common.{◌≡◌, ℕ, Bool, true, false, not, List, [], ◌∷◌, ◌++◌, Some, None, Option, MatchOption, fold, unwrap_or, sym, refl, ap, ◌∙◌, subst, arith}
+use Rattle.std.proofs.Common.{◌≡◌, ℕ, Bool, true, false, not, List, [], ◌∷◌, ◌++◌, length, Some, None, Option, MatchOption, fold, unwrap_or, sym, refl, ap, ◌∙◌, subst, arith}
 use Rattle.std.proofs.lemmas.Bool.{true≢false, not-false}
 use Rattle.std.proofs.lemmas.Bool.Decides.{nat_tests}
+use Rattle.cif.specs.declared.content.Content.TheVariants.{Header}
 use Rattle.cif.specs.declared.identity.Identity.{Identity}
 use Rattle.cif.specs.declared.identity.Identity.TheVariants.{Header as IsHeader}
 use Rattle.cif.specs.Refusals.{TableLine, uppermost, fault_at}
@@ -13,7 +14,7 @@ use Rattle.timetable.specs.Timetables.{Meaning}
 use Rattle.extract.specs.declared.stage.Stage.{Stage}
 use Rattle.extract.specs.declared.stage.Stage.TheVariants.{Idle, Complete}
 use Rattle.extract.specs.Stages.{is_idle, is_complete, next_stage, is_reading}
-use Rattle.extract.specs.Progress.{Progress, identity_for, brief_in, after_row, progress_of, transactions_of}
+use Rattle.extract.specs.Progress.{Progress, identity_for, brief_in, idle, after_row, progress_of, transactions_of}
 use Rattle.extract.specs.Judging.{Standing, is_misplaced, is_no_opening}
 use Rattle.controller.specs.declared.fault.ExtractFault.{ExtractFault}
 use Rattle.controller.specs.declared.answer.Answer.{Answer}
@@ -26,6 +27,7 @@ use Rattle.controller.specs.LedgerRows.{TakenFrom, RowsAreTaken, AreWhole, Ledge
 use Rattle.controller.proofs.Heard.{heard_read, row_moves}
 use Rattle.controller.proofs.Taking.{none_mapped, taken_heard, opening_heard}
 use Rattle.controller.proofs.Parting.{opened_by, extract_parted}
+use Rattle.controller.proofs.Ending.{same_reference, each_counted, rows_end}
 
 -- no row leads back to idle
 moves_open : (st : Stage) (i : Identity) (brief : Bool) → is_idle st ≡ false → is_idle (unwrap_or (next_stage st i brief) st) ≡ false
@@ -72,7 +74,10 @@ module _ (store : Meaning) (reference : List ℕ) where
 
   open_more : (rows : List (List ℕ)) (hd : List ℕ) → TakenFrom from rows → refusal_of (Open hd) (record from { extract = progress_of rows }) 0 ≡ None → TakenFrom from (rows ++ hd ∷ [])
   open_more [] hd t r = (r, tt)
-  open_more (x ∷ xs) hd t r = absurd (true≢false (sym (was_idle (record from { extract = progress_of (x ∷ xs) }) hd r) ∙ rows_open (standing_after from x) xs (ap is_idle (opened_by store reference x t.0).1) t.1))
+  open_more (x ∷ xs) hd t r =
+      let o = opened_by store reference x t.0 in
+      let opens = ap (λ (p : Progress). is_idle p.stage) (row_moves idle x (Header o.0) o.1) in
+      absurd (true≢false (sym (was_idle (record from { extract = progress_of (x ∷ xs) }) hd r) ∙ rows_open (standing_after from x) xs opens t.1))
 
   row_more : (rows : List (List ℕ)) (row : List ℕ) → TakenFrom from rows → IsTaken (record from { extract = progress_of rows }) row → TakenFrom from (rows ++ row ∷ [])
   row_more [] row t r = absurd (row_not_idle from row r refl)
@@ -111,23 +116,35 @@ complete_from s slots r =
     let none = none_mapped (told_with Confirm s) (uppermost (refusals Confirm s slots)) r in
     not-false (is_complete s.extract.stage) (first_free (not (is_complete s.extract.stage)) (fault_at OutOfPlace 0) (slot_lines slots s.store.capacity) none)
 
-complete_whole : (st : Stage) → is_complete st ≡ true → (is_reading st ≡ false) × (is_idle st ≡ false)
-complete_whole Complete h = (refl, refl)
+complete_whole : (st : Stage) → is_complete st ≡ true → is_reading st ≡ false
+complete_whole Complete h = refl
 complete_whole st h = absurd (true≢false (sym h))
 
 confirmed_whole : (ℓ : Ledger) (capacity slots : ℕ) → refusal_of Confirm (standing_of ℓ capacity) slots ≡ None → RowsAreTaken ℓ capacity → AreWhole ℓ
-confirmed_whole ℓ capacity slots r t = of ℓ.rows refl t (complete_whole (progress_of ℓ.rows).stage (complete_from (standing_of ℓ capacity) slots r))
+confirmed_whole ℓ capacity slots r t = of ℓ.rows refl t (complete_from (standing_of ℓ capacity) slots r)
   where
-    of : (rows : List (List ℕ)) → ℓ.rows ≡ rows → TakenFrom (idle_over (store_for ℓ capacity) ℓ.reference) rows → (is_reading (progress_of ℓ.rows).stage ≡ false) × (is_idle (progress_of ℓ.rows).stage ≡ false) → AreWhole ℓ
-    of [] e t w = absurd (true≢false (ap (λ rows. is_idle (progress_of rows).stage) (sym e) ∙ w.1))
-    of (hd ∷ rest) e t w = record {
-      hd = hd;
-      rest = rest;
-      rows = e;
-      come =
-          subst (λ (rows : List (List ℕ)). ComeTo rest [] (transactions_of rows)) (sym e)
-          (extract_parted (store_for ℓ capacity) ℓ.reference hd rest t.0 t.1 (ap (λ rows. is_reading (progress_of rows).stage) (sym e) ∙ w.0));
-    }
+    of : (rows : List (List ℕ)) → ℓ.rows ≡ rows → TakenFrom (idle_over (store_for ℓ capacity) ℓ.reference) rows → is_complete (progress_of ℓ.rows).stage ≡ true → AreWhole ℓ
+    of [] e t complete = absurd (true≢false (sym complete ∙ ap (λ rows. is_complete (progress_of rows).stage) e))
+    of (hd ∷ rest) e t complete =
+        let o = opened_by (store_for ℓ capacity) ℓ.reference hd t.0 in
+        let at = row_moves idle hd (Header o.0) o.1 in
+        let begun = standing_after (idle_over (store_for ℓ capacity) ℓ.reference) hd in
+        let whole = sym (ap (λ rows. is_complete (progress_of rows).stage) e) ∙ complete in
+        let come = subst (λ (rows : List (List ℕ)). ComeTo rest [] (transactions_of rows)) (sym e) (extract_parted (store_for ℓ capacity) ℓ.reference hd rest t.0 t.1 (complete_whole (progress_of (hd ∷ rest)).stage whole)) in
+        let counted = each_counted begun rest t.1 in
+        let first = ap (λ (p : Progress). p.taken) at in
+        let all : (progress_of (hd ∷ rest)).taken ≡ length (hd ∷ rest) = omega arith in
+        record {
+          hd = hd;
+          rest = rest;
+          rows = e;
+          header = o.0;
+          opens = o.1;
+          reference = ap (λ rows. (progress_of rows).current) e ∙ (same_reference begun rest t.1 ∙ ap (λ (p : Progress). p.current) at);
+          taken = ap (λ rows. (progress_of rows).taken) e ∙ (all ∙ ap length (sym e));
+          come = come;
+          ends = rows_end begun rest come t.1 (ap (λ (p : Progress). p.stage) at) whole;
+        }
 
 pub ledgered : LedgerRowsAreTaken
 ledgered = record { new = λ start capacity. tt; kept = answered_keeps; confirmed = confirmed_whole }

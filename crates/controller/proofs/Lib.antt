@@ -6,6 +6,7 @@ pub mod Agreed
 pub mod Taking
 pub mod Building
 pub mod Parting
+pub mod Ending
 pub mod Worked
 pub mod Ledgered
 pub mod Called

@@ -1,19 +1,21 @@
 -- The rows of an extract are cut into its parts.
-use Rattle.std.proofs.Common.{◌≡◌, ℕ, Bool, true, false, not, ◌&&◌, List, [], ◌∷◌, ◌++◌, map, Some, None, Option, flat_map, fold, unwrap_or, sym, refl, ap, ◌∙◌, subst, append-nil, append_assoc}
+use Rattle.std.proofs.Common.{◌≡◌, ℕ, Bool, true, false, not, ◌&&◌, List, [], ◌∷◌, ◌++◌, map, Some, None, Ok, Option, flat_map, fold, unwrap_or, sym, refl, ap, ◌∙◌, subst, append-nil, append_assoc}
 use Rattle.std.specs.List.{list_all}
 use Rattle.std.proofs.lemmas.Bool.{true≢false, and_parts, and_from, not-true}
 use Rattle.std.proofs.lemmas.List.Sums.{fold-append}
+use Rattle.cif.specs.declared.content.Header.{Header as Heading}
 use Rattle.cif.specs.declared.content.BasicSchedule.{BasicSchedule}
 use Rattle.cif.specs.declared.content.Location.{Location}
 use Rattle.cif.specs.declared.content.Content.{Content}
 use Rattle.cif.specs.declared.content.Content.TheVariants.{Header, Schedule, Operator, Origin, Intermediate, Terminus, Unread}
 use Rattle.cif.specs.declared.identity.Identity.TheVariants.{ChangeEnRoute, TiplocInsert, TiplocAmend, TiplocDelete, Association, Trailer}
+use Rattle.cif.specs.Reading.{read_in}
 use Rattle.schedule.specs.declared.transaction.Change.{Change}
 use Rattle.timetable.specs.Timetables.{Meaning}
 use Rattle.extract.specs.declared.stage.Stage.{Stage}
 use Rattle.extract.specs.declared.stage.Stage.TheVariants.{Idle, Between, Begun, Extra, Running, Changed, Complete}
 use Rattle.extract.specs.Stages.{next_stage, is_reading}
-use Rattle.extract.specs.Progress.{Progress, identity_for, brief_in, idle, after, after_row, progress_of}
+use Rattle.extract.specs.Progress.{Progress, identity_for, brief_in, idle, after, progress_of}
 use Rattle.extract.specs.Judging.{Standing, is_misplaced, is_no_opening}
 use Rattle.controller.specs.Calls.{Open, refusal_of}
 use Rattle.controller.specs.ScheduleRows.{WayRow, LI, CR, way_content, operator_contents, ScheduleRows, begins_schedule, AreRead, standing_after}
@@ -147,10 +149,10 @@ whole_from Changed cs h k = absurd (true≢false h)
 whole_from st cs h k = k
 
 -- the standing after some rows
-abbrev moved_all : Standing → List Content → Standing
+abbrev pub moved_all : Standing → List Content → Standing
 moved_all s cs = record s { extract = fold after s.extract cs }
 
-admits_both : (xs ys : List Content) (s : Standing) → AdmitsAll s (xs ++ ys) → AdmitsAll s xs × AdmitsAll (moved_all s xs) ys
+pub admits_both : (xs ys : List Content) (s : Standing) → AdmitsAll s (xs ++ ys) → AdmitsAll s xs × AdmitsAll (moved_all s xs) ys
 admits_both [] ys s a = (tt, a)
 admits_both (x ∷ xs) ys s a = let r = admits_both xs ys (moved s x) a.1 in ((a.0, r.0), r.1)
 
@@ -184,22 +186,23 @@ rows_parted s rows taken before after_all =
           ∙ parts_add cut.parts s cut.each (subst (λ (cs : List Content). AdmitsAll s cs) cut.are t.0));
     }
 
--- an HD opens an extract of which nothing is pending
-opened : (c : Content) → (not (is_no_opening Idle (identity_for c)) && is_sound c) ≡ true → ((after idle c).changes ≡ []) × ((after idle c).stage ≡ Between)
-opened (Header h) e = (refl, refl)
-opened (Unread ChangeEnRoute) e = absurd (true≢false (sym e))
-opened c e = absurd (true≢false (sym e))
+-- only an HD is in place for open
+is_header_row : (c : Content) → (not (is_no_opening Idle (identity_for c)) && is_sound c) ≡ true → (h : Heading) × (c ≡ Header h)
+is_header_row (Header h) e = (h, refl)
+is_header_row (Unread ChangeEnRoute) e = absurd (true≢false (sym e))
+is_header_row c e = absurd (true≢false (sym e))
 
-pub opened_by : (store : Meaning) (reference hd : List ℕ) → refusal_of (Open hd) (idle_over store reference) 0 ≡ None → ((after_row idle hd).changes ≡ []) × ((after_row idle hd).stage ≡ Between)
+-- so what open takes is read as an HD
+pub opened_by : (store : Meaning) (reference hd : List ℕ) → refusal_of (Open hd) (idle_over store reference) 0 ≡ None → (h : Heading) × (read_in hd ≡ Ok (Header h))
 opened_by store reference hd taken =
     let h = (opening_heard (idle_over store reference) hd taken).1 in
     let sound = content_sound h.identity hd h.content h.read in
-    let begun = opened h.content (and_from (not (is_no_opening Idle (identity_for h.content))) (is_sound h.content) (ap not (ap (is_no_opening Idle) sound.0 ∙ h.place)) sound.1) in
-    let same = row_moves idle hd h.content (heard_read h) in
-    (ap (λ (p : Progress). p.changes) same ∙ begun.0, ap (λ (p : Progress). p.stage) same ∙ begun.1)
+    let is = is_header_row h.content (and_from (not (is_no_opening Idle (identity_for h.content))) (is_sound h.content) (ap not (ap (is_no_opening Idle) sound.0 ∙ h.place)) sound.1) in
+    (is.0, heard_read h ∙ ap Ok is.1)
 
 pub extract_parted : ExtractComesToParts
 extract_parted store reference hd rows first taken after_all =
     let o = opened_by store reference hd first in
-    subst (λ (cs : List Change). ComeTo rows cs (progress_of (hd ∷ rows)).changes) o.0
-    (rows_parted (standing_after (idle_over store reference) hd) rows taken (ap is_reading o.1) after_all)
+    let at = row_moves idle hd (Header o.0) o.1 in
+    subst (λ (cs : List Change). ComeTo rows cs (progress_of (hd ∷ rows)).changes) (ap (λ (p : Progress). p.changes) at)
+    (rows_parted (standing_after (idle_over store reference) hd) rows taken (ap (λ (p : Progress). is_reading p.stage) at) after_all)

@@ -8,7 +8,7 @@ use Rattle.cif.specs.declared.identity.Identity.{Identity}
 use Rattle.cif.specs.declared.identity.Identity.TheVariants.{TiplocInsert, TiplocAmend, TiplocDelete, Association, Trailer}
 use Rattle.schedule.specs.declared.transaction.Change.{Change}
 use Rattle.timetable.specs.Timetables.{Meaning}
-use Rattle.extract.specs.Stages.{is_reading}
+use Rattle.extract.specs.Stages.{is_reading, is_trailer}
 use Rattle.extract.specs.Progress.{idle, after_row, progress_of, transactions_of}
 use Rattle.extract.specs.Judging.{Standing}
 use Rattle.controller.specs.Calls.{Open, refusal_of}
@@ -53,6 +53,17 @@ pub record ComeTo (rows : List (List ℕ)) (before after : List Change) : Type 0
   pub each : list_all is_part parts ≡ true
   pub read : AreRead rows (flat_map part_contents parts)
   pub changes : after ≡ before ++ flat_map part_transactions parts
+
+-- whether a part is ZZ
+abbrev pub is_trailer_part : Part → Bool
+is_trailer_part (Other i) = is_trailer i
+is_trailer_part _ = false
+
+-- parts of which the last is ZZ, and no other is
+pub record EndAtTrailer (parts : List Part) : Type 0 where
+  pub others : List Part
+  pub are : parts ≡ others ++ Other Trailer ∷ []
+  pub none : list_all (λ part. not (is_trailer_part part)) others ≡ true
 
 -- any rows that are taken one after another, with no schedule half read before and after them, come to the transactions of their parts
 abbrev pub RowsComeToParts : Type 0
