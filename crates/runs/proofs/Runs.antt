@@ -1,5 +1,5 @@
 -- A run, call by call.
-use Rattle.std.proofs.Common.{refl, false, None, Option, MatchOption, nat_lt, true, slice_index_or, ◌≡◌, ℕ, zero, suc, ◌+◌, ◌<◌, List, [], ◌∷◌, ◌++◌, length, take, set, Some, sym, ap, ◌∙◌, subst, arith, slice_get}
+use Rattle.std.proofs.Common.{refl, None, Option, MatchOption, nat_lt, true, slice_index_or, ◌≡◌, ℕ, zero, suc, ◌+◌, ◌<◌, List, [], ◌∷◌, ◌++◌, length, take, set, Some, sym, ap, ◌∙◌, subst, arith, slice_get}
 use Rattle.std.proofs.lemmas.List.Sums.{fold_push}
 use Rattle.std.proofs.lemmas.Bool.Decides.{nat_tests}
 use Rattle.std.proofs.lemmas.Option.{get_or_from_slice_get, slice_get_within, slice_get-get_or}
@@ -12,12 +12,9 @@ use Rattle.controller.proofs.Ledgered.{ledgered}
 use Rattle.std.proofs.lemmas.Bool.{false≢true}
 use Rattle.controller.specs.declared.answer.Answer.{Answer}
 use Rattle.controller.specs.Ledger.{Ledger, ledger_after, Entry, ledger_after_all, is_accepted, standing_of, Accepts, AnswerOf}
-use Rattle.std.specs.Bool.{OnFalse}
 use Rattle.schedule.specs.declared.transaction.Change.{Change}
 use Rattle.timetable.specs.Timetables.{Meaning, StoreEdit}
 use Rattle.extract.specs.Progress.{Progress}
-use Rattle.board.specs.Boards.{SlotsKept}
-use Rattle.controller.specs.Shown.{progress_in}
 use Rattle.runs.specs.declared.call.Call.{Call as Asked}
 use Rattle.runs.specs.declared.run.Run.{Run}
 use Rattle.runs.specs.Runs.{ledger_of, installation_of, store_in, state_of, capacity_of, GoesOn, MakesNext}
@@ -83,8 +80,8 @@ makes_next meaning becomes first before after q d a there is on does k =
     let obeyed = does.obeys.ledger ℓ k.ledger in
     let at = stands_at first before.calls.now before.answers.now after.answers.now before.made after.made q d a before.places there is on.answers on.made in
     let noted : ledger_of first after ≡ ledger_after ℓ (call_meant q) (is_accepted a) =
-        ap (λ (c : _). ledger_at first c.now after.answers.now after.made) on.calls
-        ∙ written first before.calls.now before.answers.now after.answers.now before.made after.made q d a before.places there is on.answers on.made in
+    ap (λ (c : _). ledger_at first c.now after.answers.now after.made) on.calls
+    ∙ written first before.calls.now before.answers.now after.answers.now before.made after.made q d a before.places there is on.answers on.made in
     record {
       call = q;
       next = at;

@@ -61,7 +61,7 @@ pub record Makes {S : Type 0} {M : _} (meaning : S → Meaning) (becomes : S →
       is_confirm call ≡ true → is_accepted answer ≡ true
       → lines_without (named_in (ledger_of first before)) (state_of meaning before).lines
       ≡ lines_without (named_in (ledger_of first before)) (state_of meaning after).lines
-  -- the rows of a confirmed extract are an HD and whole parts, and its transactions are those of the parts
+  -- the rows of a confirmed extract are an HD and whole parts up to ZZ, and its transactions are those of the parts
   pub parts : is_confirm call ≡ true → is_accepted answer ≡ true → AreWhole (ledger_of first before)
   -- the store becomes what the puts and removals of the confirmed transactions make of it; any other call leaves it the value that it was
   pub store :
