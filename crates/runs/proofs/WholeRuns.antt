@@ -1,6 +1,10 @@
 -- A whole run, call by call.
-use Rattle.std.proofs.Common.{◌≡◌, ℕ, zero, suc, ◌+◌, ◌<◌, ◌≤◌, Some, None, Option, Ok, Err, Result, IfOk, MatchResult, List, [], ◌∷◌, length, take, set, sym, refl, ap, ◌∙◌, subst, ⊎_elim, arith, get_or-set_same, get_or-set_other, slice_get, ◌≢◌}
-use Rattle.std.proofs.lemmas.List.{take_all}
+use Rattle.std.proofs.Common.{drop, ◌-◌, ◌≡◌, ℕ, zero, suc, ◌+◌, ◌<◌, ◌≤◌, Some, None, Option, Ok, Err, Result, IfOk, MatchResult, List, [], ◌∷◌, length, take, set, sym, refl, ap, ◌∙◌, subst, ⊎_elim, arith, get_or-set_same, get_or-set_other, slice_get, ◌≢◌}
+use Rattle.std.proofs.lemmas.List.{take_all, length-take-le, drop-drop}
+use Rattle.std.specs.Borrow.{MutBor}
+use Rattle.board.specs.Boards.{lines_of}
+use Rattle.board.specs.declared.line.Line.{Line}
+use Rattle.controller.specs.Calls.{Call}
 use Rattle.std.proofs.lemmas.Option.{get_or_from_slice_get, slice_get-get_or}
 use Rattle.std.proofs.lemmas.Bool.{cases_lt}
 use Rattle.schedule.specs.declared.record.Record.{Record}
@@ -13,8 +17,8 @@ use Rattle.runs.specs.declared.call.Call.{Call as Asked}
 use Rattle.runs.specs.declared.plan.Plan.{Plan}
 use Rattle.runs.specs.declared.run.Run.{Run}
 use Rattle.runs.specs.Calls.{call_meant, entries, ledger_at}
-use Rattle.runs.specs.Runs.{ledger_of, state_of, capacity_of, Makes, Next, Begins}
-use Rattle.runs.specs.WholeRuns.{ByLedger, FirstCalls, ledger_of_all, MadeAll, RunsAll}
+use Rattle.runs.specs.Runs.{ledger_of, state_of, capacity_of, Makes, Next, Begins, GoesOn, installation_of}
+use Rattle.runs.specs.WholeRuns.{ByLedger, FirstCalls, ledger_of_all, PastKept, line_slots, MadeAll, RunsAll}
 use Rattle.runs.proofs.Ledgers.{start_kept}
 
 -- the answer to a later call changes nothing of what was written down before it
@@ -60,6 +64,35 @@ each_more first capacity slots qs rs i q a at within new old k x y l e f =
         (subst (λ (c : Asked). ByLedger capacity slots (ledger_at first qs rs i) (call_meant c) y) (same_call qs i q x at (ap (slice_get qs) z ∙ e))
         (subst (λ (b : Answer). ByLedger capacity slots (ledger_at first qs rs i) (call_meant q) b) (answer_same rs i a y (ap (slice_get (set rs i a)) z ∙ f) within) new))
 
+-- the ledger after the first calls, when one more is made
+ledger_before : (first : Ledger) (qs : List Asked) (rs ss : List Answer) (i k : ℕ) (a : Answer) → ss ≡ set rs i a → k ≤ i → ledger_at first qs ss k ≡ ledger_at first qs rs k
+ledger_before first qs rs ss i k a e l = ap (λ (ts : List Answer). ledger_at first qs ts k) e ∙ ap (ledger_after_all first) (entries_before qs rs i k a l)
+
+-- what is the same from some place on is the same from any later one on
+drop_twice : {X : Type 0} (zs : List X) (m n : ℕ) → m ≤ n → drop n zs ≡ drop (n - m) (drop m zs)
+drop_twice zs m n l = ap (λ (k : ℕ). drop k zs) (let z : n ≡ m + (n - m) = omega arith in z) ∙ sym (drop-drop (n - m) m zs)
+
+drop_later : {X : Type 0} (xs ys : List X) (m n : ℕ) → m ≤ n → drop m xs ≡ drop m ys → drop n xs ≡ drop n ys
+drop_later xs ys m n l e = drop_twice xs m n l ∙ (ap (drop (n - m)) e ∙ sym (drop_twice ys m n l))
+
+-- one call more leaves the slots past the most lines
+past_more : {S : Type 0} {M : _} (meaning : S → Meaning) (becomes : S → List StoreEdit → S → Type 0) (first : Ledger) (lent : MutBor (List Line)) (before after : Run S M) (a : Answer) (call : Call)
+    → GoesOn before after a → Makes meaning becomes first before after call a
+    → PastKept first before.calls.now before.answers.now before.made lent (installation_of before).board
+    → PastKept first after.calls.now after.answers.now after.made lent (installation_of after).board
+past_more meaning becomes first lent before after a call on makes past = record {
+  lender = makes.rest.lender ∙ past.lender;
+  rest = λ n most.
+      let b = (installation_of after).board in
+      let lines : length (lines_of b) ≤ n = most after.made (lines_of b) (omega arith) makes.keeps_after.lines in
+      let held : length (lines_of b) ≡ b.lines.elements.len = length-take-le b.lines.elements.len b.lines.elements.slots.now b.lines.elements.fits in
+      drop_later (line_slots b).now (line_slots (installation_of before).board).now b.lines.elements.len n (omega arith) makes.rest.rest
+      ∙ past.rest n (λ k xs l h. most k xs (let m = on.made in omega arith) (subst (λ (ℓ : Ledger). LinesOf ℓ xs) (sym (same k l)) h));
+}
+  where
+    same : (k : ℕ) → k ≤ before.made → ledger_at first after.calls.now after.answers.now k ≡ ledger_at first before.calls.now before.answers.now k
+    same k l = ap (λ (c : _). ledger_at first c.now after.answers.now k) on.calls ∙ ledger_before first before.calls.now before.answers.now after.answers.now before.made k a on.answers l
+
 -- a run that has made so many of the calls of a plan
 pub record SoFar {S : Type 0} {M : _} (meaning : S → Meaning) (first : Ledger) (p : Plan S) (run : Run S M) (n : ℕ) : Type 0 where
   pub calls : run.calls ≡ p.calls
@@ -68,6 +101,7 @@ pub record SoFar {S : Type 0} {M : _} (meaning : S → Meaning) (first : Ledger)
   pub each : FirstCalls first (meaning p.store).capacity (length p.slots.now) run.calls.now run.answers.now run.made
   pub capacity : capacity_of meaning run ≡ (meaning p.store).capacity
   pub slots : (state_of meaning run).slots ≡ length p.slots.now
+  pub past : PastKept first run.calls.now run.answers.now run.made p.slots (installation_of run).board
 
 pub none_made : {S : Type 0} {M : _} (meaning : S → Meaning) (first : Ledger) (p : Plan S) (run : Run S M) → Begins meaning p run → SoFar meaning first p run 0
 none_made meaning first p run b = record {
@@ -77,6 +111,7 @@ none_made meaning first p run b = record {
   each = λ k call answer l e f. absurd (let m = b.made in omega arith);
   capacity = ap (λ (s : _). (meaning s).capacity) b.store;
   slots = ap length b.slots.kept;
+  past = record { lender = b.slots.lender; rest = λ n most. ap (drop n) b.slots.kept };
 }
 
 -- what a call that is made says, by the ledger
@@ -114,6 +149,7 @@ one_more meaning becomes first p before after (Some a) n l s next =
           (subst (λ (qs : List Asked). FirstCalls first capacity slots qs (set before.answers.now before.made a) (before.made + 1)) (sym (ap (λ (c : _). c.now) next.goes_on.calls)) more));
       capacity = next.makes.capacity ∙ s.capacity;
       slots = next.makes.slots ∙ s.slots;
+      past = past_more meaning becomes first p.slots before after a (call_meant next.call) next.goes_on next.makes s.past;
     }
 
 -- each transaction that was confirmed could be done, over a store of a capacity that had the map of the start
@@ -142,8 +178,8 @@ all_made meaning first p run n l s k =
     }
 
 pub made_all : {S : Type 0} {M : _} (meaning : S → Meaning) (first : Ledger) (p : Plan S) (run : Run S M) (n : ℕ) → length p.calls.now ≤ n → n ≤ length p.calls.now
-    → SoFar meaning first p run n → MadeAll p run
-made_all meaning first p run n l m s = record { calls = s.calls; made = (let e = s.made in omega arith); lender = s.lender }
+    → SoFar meaning first p run n → MadeAll first p run
+made_all meaning first p run n l m s = record { calls = s.calls; made = (let e = s.made in omega arith); lender = s.lender; slots = s.past }
 
 -- where both were run
 pub both_ok : {X Y Z W : Type 0} (r : Result X Y) (t : Result Z W) (P : X → Type 0) (Q : Y → Type 0) (R : Z → Type 0) (V : W → Type 0) (G : X → Z → Type 0)

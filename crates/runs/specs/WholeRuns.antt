@@ -1,6 +1,8 @@
 -- Whole runs: all calls of a list, one after another, from a new installation on.
-use Rattle.std.specs.Prelude.{◌≡◌, ℕ, ◌<◌, true, List, length, Some, Result, MatchResult, IfOk, slice_get}
+use Rattle.std.specs.Prelude.{◌≡◌, ℕ, ◌<◌, ◌≤◌, drop, true, List, length, Some, Result, MatchResult, IfOk, slice_get}
+use Rattle.std.specs.Borrow.{MutBor}
 use Rattle.timetable.specs.Timetables.{Meaning}
+use Rattle.board.specs.declared.display.Board.{Board}
 use Rattle.board.specs.declared.line.Line.{Line}
 use Rattle.board.specs.Strikes.{lines_without}
 use Rattle.overlay.specs.Permitted.{EachMayBeDone}
@@ -9,7 +11,7 @@ use Rattle.controller.specs.Calls.{Call}
 use Rattle.controller.specs.Ledger.{Ledger, ledger_after, ledger_after_all, LinesOf, AnswerOf, is_accepted}
 use Rattle.controller.specs.Keeping.{State, KeepsTo, is_confirm}
 use Rattle.runs.specs.Calls.{call_meant, entries, ledger_at}
-use Rattle.runs.specs.Runs.{state_of, named_in, Suits}
+use Rattle.runs.specs.Runs.{installation_of, state_of, named_in, Suits}
 use Rattle.runs.specs.Pairs.{SameLines}
 use Rattle.runs.specs.declared.call.Call.{Call as Asked}
 use Rattle.runs.specs.declared.plan.Plan.{Plan}
@@ -48,17 +50,32 @@ pub record RunsAll (first : Ledger) (capacity slots : ℕ) (calls : List Asked) 
   pub capacity_stays : end.standing.store.capacity ≡ capacity
   pub slots_stay : end.slots ≡ slots
 
--- a run has made all calls of its plan, and the answers are in the places that the plan lent
-pub record MadeAll {S : Type 0} {M : _} (p : Plan S) (run : Run S M) : Type 0 where
+-- no more than n lines stood on the board when the run began and after each of its first calls
+abbrev pub AtMost : Ledger → List Asked → List Answer → ℕ → ℕ → Type 0
+AtMost first calls answers made n =
+    (k : ℕ) (lines : List Line) → k ≤ made → LinesOf (ledger_at first calls answers k) lines → length lines ≤ n
+
+-- the line slots of a board, as they were lent
+abbrev pub line_slots : Board → MutBor (List Line)
+line_slots b = b.lines.elements.slots
+
+-- a board's line slots are those that were lent; past the most lines that ever stood on it they keep what they had
+pub record PastKept (first : Ledger) (calls : List Asked) (answers : List Answer) (made : ℕ) (lent : MutBor (List Line)) (b : Board) : Type 0 where
+  pub lender : (line_slots b).ghost_name ≡ lent.ghost_name
+  pub rest : (n : ℕ) → AtMost first calls answers made n → drop n (line_slots b).now ≡ drop n lent.now
+
+-- a run has made all calls of its plan, in what the plan lent: the answers are in its places, the lines in its slots
+pub record MadeAll {S : Type 0} {M : _} (first : Ledger) (p : Plan S) (run : Run S M) : Type 0 where
   pub calls : run.calls ≡ p.calls
   pub made : run.made ≡ length p.calls.now
   pub lender : run.answers.ghost_name ≡ p.answers.ghost_name
+  pub slots : PastKept first run.calls.now run.answers.now run.made p.slots (installation_of run).board
 
 -- a plan is run, or it cannot be and is handed back as it was
 abbrev pub RunOf : {S : Type 0} {M : _} → (S → Meaning) → Ledger → Plan S → Result (Run S M) (Plan S) → Type 0
 RunOf meaning first p r =
     MatchResult r
-    (λ run. Suits meaning p × MadeAll p run
+    (λ run. Suits meaning p × MadeAll first p run
     × RunsAll first (meaning p.store).capacity (length p.slots.now) p.calls.now run.answers.now (state_of meaning run))
     (λ back. (back ≡ p) × (Suits meaning p → ⊥))
 
