@@ -48,7 +48,8 @@ impl<'a> RunMemory<'a> {
         ensures lines { IfOk result (λ memory. length memory.lines.items ≡ history.now.slots) }
         ensures calls { IfOk result
             (λ memory. map call_meant memory.calls.items ≡ map call_of steps.now) }
-        ensures answers { IfOk result (λ memory. length memory.answers.items ≡ length steps.now) }
+        ensures answers { IfOk result
+            (λ memory. length memory.answers.items ≡ length steps.now) }
     {
         let mut calls = Vec::new(rt.alloc());
         for step in steps {
