@@ -1,7 +1,7 @@
 -- What refusals say in words.
 use Rattle.std.specs.Prelude.{ℕ, List, codes}
 use Rattle.cif.specs.declared.refusal.Refusal.{Refusal}
-use Rattle.cif.specs.declared.refusal.Refusal.TheVariants.{RowLength, BadByte, UnknownIdentity, OutOfPlace, BadForm, EndsBeforeStart, ReferenceMismatch, KeyPresent, KeyAbsent, TooManyCalls, TooManyVisits, TooManyRows, StoreFull, NoSuchBoard, TooFewSlots}
+use Rattle.cif.specs.declared.refusal.Refusal.TheVariants.{RowLength, BadByte, UnknownIdentity, OutOfPlace, BadForm, EndsBeforeStart, ReferenceMismatch, KeyPresent, KeyAbsent, TooManyCalls, TooManyVisits, TooManyRows, StoreFull, NoSuchBoard, TooFewSlots, PageLength, NoSuchMinute, BadNameByte}
 
 -- the words for each refusal
 abbrev pub words_of : Refusal → List ℕ
@@ -20,3 +20,6 @@ words_of TooManyRows = codes "too many rows or transactions"
 words_of StoreFull = codes "the store is full"
 words_of NoSuchBoard = codes "no such station or day"
 words_of TooFewSlots = codes "too few line slots"
+words_of PageLength = codes "the page is not of 264 bytes"
+words_of NoSuchMinute = codes "the minute is above 1439"
+words_of BadNameByte = codes "a byte of the name is outside 32 to 126"

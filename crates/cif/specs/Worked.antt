@@ -26,9 +26,9 @@ times = codes "2359" ∷ codes "2400" ∷ codes "1260" ∷ []
 abbrev pub refused_at : ℕ → List (Option (ℕ × ℕ))
 refused_at column = None ∷ Some (5, column) ∷ Some (5, column) ∷ []
 
--- the worked cases; the refusals have the numbers 1 to 15 in turn
+-- the worked cases; the refusals have the numbers 1 to 18 in turn
 pub record Worked : Type 0 where
-  pub numbers : map (λ t. t.1) refusal_numbers ≡ range_with_len 1 15
+  pub numbers : map (λ t. t.1) refusal_numbers ≡ range_with_len 1 18
   pub origins : map (λ t. refusal_in (end_row (codes "LO") t)) times ≡ refused_at 16
   pub arrivals : map (λ t. refusal_in (intermediate_row t (codes "0000"))) times ≡ refused_at 26
   pub departures : map (λ t. refusal_in (intermediate_row (codes "0000") t)) times ≡ refused_at 30

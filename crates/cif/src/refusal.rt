@@ -39,11 +39,17 @@ pub enum Refusal {
     NoSuchBoard = 14,
     /// The board has fewer line slots than twice the capacity.
     TooFewSlots = 15,
+    /// The page handed in is not of 264 bytes.
+    PageLength = 16,
+    /// The minute is above 1,439.
+    NoSuchMinute = 17,
+    /// A byte of the local name is outside 32 to 126.
+    BadNameByte = 18,
 }
 
 impl Refusal {
     /// Each refusal with its number.
-    pub const NUMBERS: [(Refusal, u8); 15] = [
+    pub const NUMBERS: [(Refusal, u8); 18] = [
         (Refusal::RowLength, Refusal::RowLength as u8),
         (Refusal::BadByte, Refusal::BadByte as u8),
         (Refusal::UnknownIdentity, Refusal::UnknownIdentity as u8),
@@ -59,9 +65,12 @@ impl Refusal {
         (Refusal::StoreFull, Refusal::StoreFull as u8),
         (Refusal::NoSuchBoard, Refusal::NoSuchBoard as u8),
         (Refusal::TooFewSlots, Refusal::TooFewSlots as u8),
+        (Refusal::PageLength, Refusal::PageLength as u8),
+        (Refusal::NoSuchMinute, Refusal::NoSuchMinute as u8),
+        (Refusal::BadNameByte, Refusal::BadNameByte as u8),
     ];
 
-    /// The number in the table of refusals, 1 to 15.
+    /// The number in the table of refusals, 1 to 18.
     pub fn number(self) -> u8
         ensures { result ≡ number_of self }
     {
@@ -99,6 +108,9 @@ impl fmt::Display for Refusal {
             Refusal::StoreFull => "the store is full",
             Refusal::NoSuchBoard => "no such station or day",
             Refusal::TooFewSlots => "too few line slots",
+            Refusal::PageLength => "the page is not of 264 bytes",
+            Refusal::NoSuchMinute => "the minute is above 1439",
+            Refusal::BadNameByte => "a byte of the name is outside 32 to 126",
         })
     }
 }

@@ -11,8 +11,8 @@ use crate::identity::Identity;
 use crate::refusal::{ColumnFault, Refusal};
 use crate::row::{ROW_LENGTH, Row};
 
-// Whether a byte is printable.
-fn is_printable(b: u8) -> bool
+/// Whether a byte is printable: from 32 to 126.
+pub fn is_printable(b: u8) -> bool
     ensures { result ≡ is_printable b }
 {
     matches!(b, 32..=126)
