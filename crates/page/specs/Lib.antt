@@ -1,0 +1,5 @@
+pub mod Headings
+pub mod Rows
+pub mod Pages
+pub mod Laws
+pub mod Worked

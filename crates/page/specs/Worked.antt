@@ -1,0 +1,24 @@
+-- Worked cases of pages.
+use Rattle.std.specs.Prelude.{◌≡◌, ℕ, List, codes}
+use Rattle.board.specs.declared.line.Line.{Line}
+use Rattle.page.specs.Headings.{heading_of}
+use Rattle.page.specs.Rows.{row_of, line_fields}
+
+-- the line of 09:05 to HALTA, platform 4, operator ZZ, identity 1A23
+abbrev pub example_line : Line
+example_line =
+    record {
+      key = record { minute = 545; uid = 212345; place = 0 };
+      platform = codes "4  ";
+      destination = codes "HALTA  ";
+      train = codes "1A23";
+      operator = codes "ZZ";
+    }
+
+-- the worked cases
+pub record Worked : Type 0 where
+  pub row : row_of (line_fields example_line) ≡ codes "0905 HALTA   4   ZZ 1A23"
+  pub name : heading_of (codes "  Halta Road ") (codes "HALTA  ") ≡ codes "Halta Road"
+  pub blank_name : heading_of (codes "   ") (codes "HALTA  ") ≡ codes "HALTA"
+  pub no_name : heading_of (codes "") (codes "HALTA  ") ≡ codes "HALTA"
+  pub no_station : heading_of (codes " ") (codes "       ") ≡ codes ""
