@@ -1,17 +1,21 @@
 //! What the command line asks for.
 
+use crate::run::glass;
 use crate::{board, extract, generate};
 use std::collections::HashMap;
 use std::ffi::{OsStr, OsString};
+use std::os::unix::ffi::OsStrExt;
 use std::str::FromStr;
 
 pub const USAGE: &str = "\
 usage: reference run [--store STORE] [--capacity CAPACITY] STATION DATE FILE...
+       reference glass [--store STORE] [--capacity CAPACITY] [--name NAME] [--at HH:MM] [--svg FILE] STATION DATE FILE...
        reference replay SCRIPT...
        reference rows FILE...
        reference stores [--capacity CAPACITY] FILE...
        reference board [--store STORE] [--capacity CAPACITY] STATION DATE FILE...
        reference turns [--store STORE] [--capacity CAPACITY] COUNT STATION DATE FILE...
+       reference pages [--store STORE] [--capacity CAPACITY] COUNT STATION DATE FILE...
        reference extract [--store STORE] [--capacity CAPACITY] [--base FILE] STATION DATE FILE...
        reference generate SEED COUNT
        reference generate-schedules SEED COUNT
@@ -26,11 +30,13 @@ const USUAL_SLOTS: usize = 2_000;
 
 pub enum Command {
     Run(board::Request, Vec<OsString>),
+    Glass(glass::Request, Vec<OsString>),
     Replay(Vec<OsString>),
     Rows(Vec<OsString>),
     Stores { slots: usize, names: Vec<OsString> },
     Board(board::Request, Vec<OsString>),
     Turns(u64, board::Request, Vec<OsString>),
+    Pages(u64, board::Request, Vec<OsString>),
     Extract(extract::Request, Vec<OsString>),
     Generate(generate::Sample),
 }
@@ -48,7 +54,8 @@ fn command(arguments: &[OsString]) -> Option<Command> {
     let (name, rest) = arguments.split_first()?;
     let name = name.to_str()?;
     let options: &[&str] = match name {
-        "run" | "board" | "turns" => &["store", "capacity"],
+        "run" | "board" | "turns" | "pages" => &["store", "capacity"],
+        "glass" => &["store", "capacity", "name", "at", "svg"],
         "stores" => &["capacity"],
         "extract" => &["store", "capacity", "base"],
         _ => &[],
@@ -65,6 +72,20 @@ fn command(arguments: &[OsString]) -> Option<Command> {
             request(&given, station, date)?,
             names.to_vec(),
         )),
+        ("glass", [station, date, names @ ..]) if !names.is_empty() => {
+            let board = request(&given, station, date)?;
+            let at = match given.get("at") {
+                Some(clock) => glass::At::read(clock)?,
+                None => glass::At::default(),
+            };
+            let request = glass::Request {
+                board,
+                name: given.remove("name").unwrap_or_default(),
+                at,
+                picture: given.remove("svg"),
+            };
+            Some(Command::Glass(request, names.to_vec()))
+        }
         ("board", [station, date, names @ ..]) if !names.is_empty() => Some(Command::Board(
             request(&given, station, date)?,
             names.to_vec(),
@@ -72,6 +93,10 @@ fn command(arguments: &[OsString]) -> Option<Command> {
         ("turns", [times, station, date, names @ ..]) if !names.is_empty() => {
             let request = request(&given, station, date)?;
             Some(Command::Turns(number(times)?, request, names.to_vec()))
+        }
+        ("pages", [times, station, date, names @ ..]) if !names.is_empty() => {
+            let request = request(&given, station, date)?;
+            Some(Command::Pages(number(times)?, request, names.to_vec()))
         }
         ("extract", [station, date, names @ ..]) if !names.is_empty() => {
             let board = request(&given, station, date)?;
@@ -101,19 +126,19 @@ fn sorted_out(options: &[&'static str], arguments: &[OsString]) -> Option<(Given
             words.push(argument.clone());
             continue;
         }
-        let option = argument.to_str()?.strip_prefix("--")?;
-        let (option, value) = match option.split_once('=') {
-            Some((option, value)) => (option, OsString::from(value)),
+        let option = argument.as_bytes().strip_prefix(b"--")?;
+        let (option, value) = match option.iter().position(|&byte| byte == b'=') {
+            Some(sign) => (&option[..sign], OsStr::from_bytes(&option[sign + 1..])),
             None => {
                 let value = arguments.next()?;
                 (
                     option,
-                    Some(value).filter(|it| !looks_like_an_option(it))?.clone(),
+                    Some(value.as_os_str()).filter(|it| !looks_like_an_option(it))?,
                 )
             }
         };
-        let known = options.iter().find(|known| **known == option)?;
-        if given.insert(known, value).is_some() {
+        let known = options.iter().find(|known| known.as_bytes() == option)?;
+        if given.insert(known, value.to_owned()).is_some() {
             return None;
         }
     }
@@ -166,7 +191,11 @@ mod tests {
         match made(words)? {
             Command::Run(request, names)
             | Command::Board(request, names)
-            | Command::Turns(_, request, names) => Some((request.kind, request.slots, names.len())),
+            | Command::Turns(_, request, names)
+            | Command::Pages(_, request, names) => Some((request.kind, request.slots, names.len())),
+            Command::Glass(request, names) => {
+                Some((request.board.kind, request.board.slots, names.len()))
+            }
             Command::Extract(request, names) => {
                 Some((request.board.kind, request.board.slots, names.len()))
             }
@@ -186,6 +215,11 @@ mod tests {
             ("run A --capacity +7 1 a -", (Table, 7, 2)),
             ("board --store bag A 1 a", (Bag, 2_000, 1)),
             ("turns 3 --capacity 9 A 1 a", (Table, 9, 1)),
+            ("pages --store=bag 3 A 1 a", (Bag, 2_000, 1)),
+            (
+                "glass A 1 --at 09:15 a --name=x --svg b c",
+                (Table, 2_000, 2),
+            ),
             ("extract --base b A 1 a c", (Table, 2_000, 2)),
         ];
         for (words, expected) in all {
@@ -210,10 +244,61 @@ mod tests {
             "stores --capacity -1 a",
             "stores --capacity",
             "turns x HALTA 240304 a",
+            "pages HALTA 240304 a",
+            "pages -1 HALTA 240304 a",
+            "glass HALTA 240304",
+            "glass --at 9:15 HALTA 240304 a",
+            "glass --at 09:15: HALTA 240304 a",
+            "glass --at 0915 HALTA 240304 a",
+            "glass --at 09.15 HALTA 240304 a",
+            "glass --at +9:15 HALTA 240304 a",
+            "glass --name a --name b HALTA 240304 a",
+            "glass --name -a HALTA 240304 a",
+            "glass --svg",
+            "run --name a HALTA 240304 a",
             "rows",
         ] {
             assert!(made(words).is_none(), "{words}");
         }
+    }
+
+    /// Name, clock and picture of the page that these words ask for.
+    fn glass_of(words: &[&[u8]]) -> Option<(Vec<u8>, String, Option<OsString>)> {
+        let ends = [&b"HALTA"[..], b"240304", b"a"];
+        let words: Vec<OsString> = [&b"glass"[..]]
+            .iter()
+            .chain(words)
+            .chain(&ends)
+            .map(|word| OsStr::from_bytes(word).to_owned())
+            .collect();
+        match command(&words)? {
+            Command::Glass(request, _) => {
+                let name = request.name.as_bytes().to_vec();
+                Some((name, request.at.to_string(), request.picture))
+            }
+            _ => None,
+        }
+    }
+
+    #[test]
+    fn the_page_that_is_asked_for() {
+        let made = |name: &[u8], clock: &str| Some((name.to_vec(), clock.to_owned(), None));
+        assert_eq!(glass_of(&[]), made(b"", "00:00"));
+        assert_eq!(glass_of(&[b"--name", b""]), made(b"", "00:00"));
+        assert_eq!(glass_of(&[b"--name="]), made(b"", "00:00"));
+        assert_eq!(
+            glass_of(&[b"--at=24:00", b"--name= -a=b "]),
+            made(b" -a=b ", "24:00")
+        );
+        assert_eq!(
+            glass_of(&[b"--name=-\xff\n", b"--at", b"99:99"]),
+            made(b"-\xff\n", "99:99")
+        );
+        let picture = Some("p=q".into());
+        assert_eq!(
+            glass_of(&[b"--svg=p=q"]),
+            Some((vec![], "00:00".to_owned(), picture))
+        );
     }
 
     #[test]

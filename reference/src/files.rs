@@ -11,6 +11,14 @@ pub fn read(name: &OsStr) -> io::Result<Vec<u8>> {
         .map_err(|error| io::Error::new(error.kind(), format!("{}: {error}", name.display())))
 }
 
+/// Writes these bytes to the file of this name; an error tells the name too.
+pub fn write(name: &OsStr, bytes: &[u8]) -> io::Result<()> {
+    fs::write(name, bytes).map_err(|error| {
+        let told = format!("cannot write {}: {error}", name.display());
+        io::Error::new(error.kind(), told)
+    })
+}
+
 /// Prints the line that stands above the rows of the file of this name.
 pub fn print_name(name: &OsStr, out: &mut impl Write) -> io::Result<()> {
     out.write_all(b"file ")?;

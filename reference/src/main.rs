@@ -35,11 +35,13 @@ impl Command {
     fn print(self, out: &mut impl Write) -> io::Result<()> {
         match self {
             Command::Run(request, names) => run::print(&request, &names, out),
+            Command::Glass(request, names) => request.print(&names, out),
             Command::Replay(names) => replay::print(&names, out),
             Command::Rows(names) => report::print(&names, out),
             Command::Stores { slots, names } => stores::print(slots, &names, out),
             Command::Board(request, names) => request.print(&names, out),
             Command::Turns(times, request, names) => request.print_turns(times, &names, out),
+            Command::Pages(times, request, names) => request.print_pages(times, &names, out),
             Command::Extract(request, names) => request.print(&names, out),
             Command::Generate(sample) => sample.print(out),
         }

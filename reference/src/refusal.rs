@@ -21,6 +21,9 @@ pub enum Reason {
     Full = 13,
     Station = 14,
     Slots = 15,
+    PageLength = 16,
+    Minute = 17,
+    NameByte = 18,
 }
 
 impl Reason {
@@ -46,6 +49,9 @@ impl Reason {
             Reason::Full => "the store is full",
             Reason::Station => "no such station or day",
             Reason::Slots => "too few line slots",
+            Reason::PageLength => "the page is not of 264 bytes",
+            Reason::Minute => "the minute is above 1439",
+            Reason::NameByte => "a byte of the name is outside 32 to 126",
         }
     }
 }

@@ -40,13 +40,13 @@ impl Line<'_> {
 /// What a line holds, whatever becomes of the schedule that it came from.
 #[derive(Clone, Debug, PartialEq, Eq)]
 pub struct Shown {
-    minute: u32,
+    pub minute: u32,
     uid: Uid,
     place: usize,
-    platform: Label,
-    destination: String,
-    identity: Label,
-    operator: String,
+    pub platform: Label,
+    pub destination: String,
+    pub identity: Label,
+    pub operator: String,
 }
 
 impl fmt::Display for Shown {

@@ -1,6 +1,7 @@
 //! The departure board of a station and day, over the schedules of files.
 
 pub mod lines;
+pub mod page;
 pub mod turned;
 
 use crate::calendar::Date;
@@ -71,6 +72,35 @@ impl Request {
             count = std::hint::black_box(lines::lines(store.schedules(), &station, day)).len();
         }
         writeln!(out, "turns {times}: lines {count}")
+    }
+
+    /// Fills a store from the files of these names, turns a board over it, writes its page so many
+    /// times, each from the next minute of the day, and prints the sum of all bytes of the pages.
+    pub fn print_pages(
+        &self,
+        times: u64,
+        names: &[OsString],
+        out: &mut impl Write,
+    ) -> io::Result<()> {
+        let (store, _) = stores::filled(self.slots, names)?;
+        match self.sum_of_pages(times, &store) {
+            Ok(sum) => writeln!(out, "pages {times}: bytes {sum}"),
+            Err(reason) => writeln!(out, "{reason}"),
+        }
+    }
+
+    fn sum_of_pages(&self, times: u64, store: &Store) -> Result<u64, Reason> {
+        let (station, day) = self.place()?;
+        let mut board = Board::new(2 * store.capacity());
+        board.turn(store, station.0.as_bytes(), day.number())?;
+        let mut memory = [0; page::BYTES];
+        let mut sum: u64 = 0;
+        for (_, minute) in (0..times).zip((0..page::MINUTES).cycle()) {
+            board.page(&mut memory, b"", minute)?;
+            let bytes: u64 = memory.iter().copied().map(u64::from).sum();
+            sum = sum.wrapping_add(bytes);
+        }
+        Ok(sum)
     }
 
     /// The lines of the board over this store, in order.

@@ -55,6 +55,10 @@ impl Board {
         &self.lines
     }
 
+    pub fn station(&self) -> Option<&Tiploc> {
+        self.place.as_ref().map(|place| &place.station)
+    }
+
     pub fn has_station(&self) -> bool {
         self.place.is_some()
     }

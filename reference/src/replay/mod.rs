@@ -65,7 +65,12 @@ fn print_history(history: &History, out: &mut impl Write) -> io::Result<Tally> {
             } else {
                 "another"
             };
-            writeln!(out, "bag: {answers} answers, {board} board")?;
+            let memory = if bag.memory == table.memory {
+                ""
+            } else {
+                ", another memory"
+            };
+            writeln!(out, "bag: {answers} answers, {board} board{memory}")?;
         }
         Some(calls) => {
             writeln!(out, "other")?;

@@ -2,6 +2,7 @@
 
 use super::script::Call;
 use crate::board::lines::Shown;
+use crate::board::page::Framed;
 use crate::board::turned::Board;
 use crate::extract::controller::Controller;
 use crate::refusal::ExtractFault;
@@ -13,6 +14,8 @@ use std::fmt;
 pub enum Answer {
     Done,
     Refused(ExtractFault),
+    /// The page was written, which has these bytes.
+    Page(Vec<u8>),
     Line(Option<Shown>),
     Tally(u32),
 }
@@ -31,6 +34,7 @@ impl fmt::Display for Answer {
         match self {
             Answer::Done => f.write_str("done"),
             Answer::Refused(fault) => fault.fmt(f),
+            Answer::Page(page) => write!(f, "done\n{}", Framed(page)),
             Answer::Line(Some(line)) => line.fmt(f),
             Answer::Line(None) => f.write_str("none"),
             Answer::Tally(tally) => tally.fmt(f),
@@ -38,10 +42,14 @@ impl fmt::Display for Answer {
     }
 }
 
-/// A controller, and the board that is given to its calls.
+/// How many bytes a controller's calls can write.
+const MEMORY: usize = 1_024;
+
+/// A controller, and the board and the memory that are given to its calls.
 pub struct Side {
     pub controller: Controller,
     pub board: Board,
+    pub memory: [u8; MEMORY],
 }
 
 impl Side {
@@ -49,6 +57,7 @@ impl Side {
         Side {
             controller: Controller::new(store),
             board: Board::new(line_slots),
+            memory: [0; MEMORY],
         }
     }
 
@@ -62,13 +71,29 @@ impl Side {
     }
 
     pub fn answer(&mut self, call: &Call) -> Answer {
-        let Side { controller, board } = self;
+        let Side {
+            controller,
+            board,
+            memory,
+        } = self;
         match call {
             Call::Open(row) => Answer::of(controller.open(row)),
             Call::Row(row) => Answer::of(controller.row(row)),
             Call::Confirm => Answer::of(controller.confirm(board)),
             Call::Abandon => Answer::of(controller.abandon()),
             Call::Turn { day, station } => Answer::of(controller.turn(board, station, *day)),
+            Call::Page {
+                length,
+                minute,
+                name,
+            } => {
+                let length = usize::try_from(*length).map_or(MEMORY, |length| length.min(MEMORY));
+                let page = &mut memory[..length];
+                match board.page(page, name, *minute) {
+                    Ok(()) => Answer::Page(page.to_vec()),
+                    Err(reason) => Answer::Refused(ExtractFault::of_call(reason)),
+                }
+            }
             Call::Tell(place) => {
                 let place = usize::try_from(*place).ok();
                 Answer::Line(place.and_then(|place| board.lines().get(place)).cloned())

@@ -1,4 +1,7 @@
+use super::script::Call;
+use super::side::Side;
 use super::{print_histories, script};
+use crate::stores::store::Store;
 
 /// What is printed for a script of these lines.
 fn printed(script: &str) -> String {
@@ -76,4 +79,61 @@ fn boards_of_one_text_may_differ() {
     );
     let script = format!("new 1 2\n{first}confirm\n{turn}other\n{second}confirm\n{turn}");
     assert!(printed(&script).contains("\nboards: different\n"));
+}
+
+#[test]
+fn pages() {
+    let extract = extract("A00001", "DFROC1A", BLANK);
+    let script = format!(
+        "new 1 2\npage 264 0\n{extract}confirm\nturn 23439 HALTA  \npage 263 1440 \\00\n\
+         page 18446744073709551615 0\npage 1024 0\npage 264 1440 \\00\npage 264 1439 \\00\n\
+         page 264 545  Halta Road \ntally\n"
+    );
+    let told = printed(&script);
+    let (edge, blank) = (format!("+{}+\n", "-".repeat(24)), format!("|{:24}|\n", ""));
+    let first = format!(
+        "1 page: done\n{edge}{}{edge}2 open: done\n",
+        blank.repeat(11)
+    );
+    assert!(told.contains(&first));
+    let refused = |call: u32, number: u32, words: &str| {
+        format!("{call} page: refused {number}, column 0, identity \"  \", row 0: {words}\n")
+    };
+    let (length, minute) = ("the page is not of 264 bytes", "the minute is above 1439");
+    let all = [
+        "8 turn: done\n".to_owned(),
+        refused(9, 16, length),
+        refused(10, 16, length),
+        refused(11, 16, length),
+        refused(12, 17, minute),
+        refused(13, 18, "a byte of the name is outside 32 to 126"),
+        format!("14 page: done\n{edge}|{:24}|\n", "Halta Road"),
+        format!("|0905 SANDPT  4      1A01|\n{}{edge}", blank.repeat(9)),
+        "15 tally: 1\n".to_owned(),
+    ];
+    assert!(told.contains(&all.concat()));
+    assert!(told.contains("\nbag: the same answers, the same board\n"));
+    assert!(told.ends_with(
+        "refused 16: 3 times, the page is not of 264 bytes\n\
+         refused 17: 1 times, the minute is above 1439\n\
+         refused 18: 1 times, a byte of the name is outside 32 to 126\n"
+    ));
+}
+
+#[test]
+fn a_page_stands_at_the_beginning_of_the_memory() {
+    let mut side = Side::new(Store::new(0), 0);
+    let mut page = |length| {
+        let (minute, name) = (0, b"Halta".to_vec());
+        side.answer(&Call::Page {
+            length,
+            minute,
+            name,
+        });
+        (side.memory[..8].to_vec(), side.memory[264..].to_vec())
+    };
+    for length in [0, 263, 1_024, u64::MAX] {
+        assert_eq!(page(length), (vec![0; 8], vec![0; 760]));
+    }
+    assert_eq!(page(264), (b"Halta   ".to_vec(), vec![0; 760]));
 }

@@ -1,5 +1,7 @@
 //! The extracts of files taken in order, each confirmed at its end.
 
+pub mod glass;
+
 use crate::board;
 use crate::board::turned::Board;
 use crate::extract::controller::Controller;
@@ -13,19 +15,12 @@ use std::io::{self, Write};
 /// Prints what becomes of the rows of these files over an empty store, and the board that is
 /// asked for.
 pub fn print(request: &board::Request, names: &[OsString], out: &mut impl Write) -> io::Result<()> {
-    let mut run = Run::new(request);
-    run.print_head(out)?;
-    let mut total = Tally::default();
-    for name in names {
-        let bytes = files::read(name)?;
-        total += run.print_file(name, &bytes, out)?;
-    }
-    run.print_board(out)?;
-    writeln!(out, "files {}, {}", names.len(), total.told("done"))?;
-    total.print_reasons(out)
+    Run::new("run", request).print(names, out, Run::print_board)
 }
 
 struct Run<'a> {
+    /// The name of the task.
+    task: &'static str,
     request: &'a board::Request,
     controller: Controller,
     board: Board,
@@ -34,12 +29,13 @@ struct Run<'a> {
 }
 
 impl Run<'_> {
-    fn new(request: &board::Request) -> Run<'_> {
+    fn new<'a>(task: &'static str, request: &'a board::Request) -> Run<'a> {
         let store = match request.kind {
             board::Kind::Table => Store::new(request.slots),
             board::Kind::Bag => Store::bag(request.slots),
         };
         Run {
+            task,
             request,
             board: Board::new(2 * store.capacity()),
             controller: Controller::new(store),
@@ -47,13 +43,31 @@ impl Run<'_> {
         }
     }
 
+    /// Prints what becomes of the rows of these files, and the board as the caller prints it.
+    fn print<W: Write>(
+        mut self,
+        names: &[OsString],
+        out: &mut W,
+        print_board: impl FnOnce(&Self, &mut W) -> io::Result<()>,
+    ) -> io::Result<()> {
+        self.print_head(out)?;
+        let mut total = Tally::default();
+        for name in names {
+            let bytes = files::read(name)?;
+            total += self.print_file(name, &bytes, out)?;
+        }
+        print_board(&self, out)?;
+        writeln!(out, "files {}, {}", names.len(), total.told("done"))?;
+        total.print_reasons(out)
+    }
+
     /// Turns the board, and prints what it is then.
     fn print_head(&mut self, out: &mut impl Write) -> io::Result<()> {
         let (name, capacity) = (self.request.kind.name(), self.controller.capacity());
-        let slots = self.board.slots();
+        let (task, slots) = (self.task, self.board.slots());
         writeln!(
             out,
-            "run store {name}: capacity {capacity}, line slots {slots}"
+            "{task} store {name}: capacity {capacity}, line slots {slots}"
         )?;
         match self.request.turn(&self.controller, &mut self.board) {
             Ok(()) => self.print_count(out),

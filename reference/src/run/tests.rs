@@ -19,7 +19,7 @@ fn printed(kind: Kind, station: &str, rows: &[&str]) -> String {
         date: "240304".into(),
     };
     let rows: String = rows.iter().map(|row| format!("{row:80}\n")).collect();
-    let (mut run, mut out) = (Run::new(&request), Vec::new());
+    let (mut run, mut out) = (Run::new("run", &request), Vec::new());
     run.print_head(&mut out).unwrap();
     run.print_file("a".as_ref(), rows.as_bytes(), &mut out)
         .unwrap();

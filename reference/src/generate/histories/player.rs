@@ -86,7 +86,7 @@ impl<'a> Player<'a> {
             Call::Confirm => self.told.extracts.push(std::mem::take(&mut self.open)),
             Call::Abandon => self.open.clear(),
             Call::Turn { .. } => self.told.turn = Some(call.clone()),
-            Call::Tell(_) | Call::Tally => {}
+            Call::Page { .. } | Call::Tell(_) | Call::Tally => {}
         }
     }
 

@@ -15,7 +15,16 @@ pub enum Call {
     Row(Vec<u8>),
     Confirm,
     Abandon,
-    Turn { day: u32, station: Vec<u8> },
+    Turn {
+        day: u32,
+        station: Vec<u8>,
+    },
+    /// The page is written into so many bytes of the memory.
+    Page {
+        length: u64,
+        minute: u32,
+        name: Vec<u8>,
+    },
     Tell(u64),
     Tally,
 }
@@ -28,6 +37,7 @@ impl Call {
             Call::Confirm => "confirm",
             Call::Abandon => "abandon",
             Call::Turn { .. } => "turn",
+            Call::Page { .. } => "page",
             Call::Tell(_) => "tell",
             Call::Tally => "tally",
         }
@@ -41,6 +51,11 @@ impl Call {
         let line = match self {
             Call::Open(row) | Call::Row(row) => format!("{word} {}", escaped(row)),
             Call::Turn { day, station } => format!("{word} {day} {}", escaped(station)),
+            Call::Page {
+                length,
+                minute,
+                name,
+            } => format!("{word} {length} {minute} {}", escaped(name)),
             Call::Tell(place) => format!("{word} {place}"),
             Call::Confirm | Call::Abandon | Call::Tally => word.to_owned(),
         };
@@ -87,6 +102,15 @@ impl Line {
                 Call::Turn {
                     day: number(day)?,
                     station: unescaped(station.unwrap_or_default())?,
+                }
+            }
+            (b"page", Some(rest)) => {
+                let (length, rest) = cut(rest);
+                let (minute, name) = cut(rest?);
+                Call::Page {
+                    length: number(length)?,
+                    minute: number(minute)?,
+                    name: unescaped(name.unwrap_or_default())?,
                 }
             }
             (b"tell", Some(place)) => Call::Tell(number(place)?),

@@ -7,10 +7,17 @@ fn calls(script: &[u8]) -> Vec<Call> {
 #[test]
 fn every_call() {
     let script = b"# \xff\n\nnew 1 2\nopen HD \nrow\nrow \nrow \\0a\\5C\\fFx\xff\nconfirm\n\
-            abandon\nturn 4294967295 HALTA  \nturn 0\nturn 007 \ntell 18446744073709551615\ntally";
+            abandon\nturn 4294967295 HALTA  \nturn 0\nturn 007 \n\
+            page 0 4294967295\npage 18446744073709551615 07 \npage 264 0  a b\\0a \n\
+            tell 18446744073709551615\ntally";
     let turn = |day, station: &[u8]| Call::Turn {
         day,
         station: station.to_vec(),
+    };
+    let page = |length, minute, name: &[u8]| Call::Page {
+        length,
+        minute,
+        name: name.to_vec(),
     };
     let expected = [
         Call::Open(b"HD ".to_vec()),
@@ -22,6 +29,9 @@ fn every_call() {
         turn(u32::MAX, b"HALTA  "),
         turn(0, b""),
         turn(7, b""),
+        page(0, u32::MAX, b""),
+        page(u64::MAX, 7, b""),
+        page(264, 0, b" a b\n "),
         Call::Tell(u64::MAX),
         Call::Tally,
     ];
@@ -63,6 +73,17 @@ fn lines_that_are_none() {
         "turn x HALTA  ",
         "turn 4294967296 HALTA  ",
         "turn  1 HALTA  ",
+        "page",
+        "page ",
+        "page 264",
+        "page 264 ",
+        "page  264 0",
+        "page 264  0",
+        "page -1 0",
+        "page 18446744073709551616 0",
+        "page 264 4294967296 a",
+        "page 264 09:15 a",
+        "page 264 0 \\",
         "confirm ",
         "abandon x",
         "tally\r",
@@ -101,7 +122,12 @@ fn what_is_written_comes_back() {
         Call::Abandon,
         Call::Turn {
             day: 7,
-            station: bytes,
+            station: bytes.clone(),
+        },
+        Call::Page {
+            length: 1025,
+            minute: 1440,
+            name: bytes,
         },
         Call::Tell(3),
         Call::Tally,
