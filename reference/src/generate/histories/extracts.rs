@@ -32,6 +32,9 @@ impl Player<'_> {
         for _ in 0..self.random.index(4) {
             self.tell();
         }
+        for _ in 0..self.random.index(4) {
+            self.page();
+        }
     }
 
     /// Adds what comes next, and perhaps a fault or a question before it. There is room for so
@@ -43,6 +46,7 @@ impl Player<'_> {
         if self.random.once_in(12) {
             self.aside();
         }
+        self.perhaps_page();
         if self.random.once_in(150) {
             self.call(Call::Abandon);
         }
@@ -71,7 +75,7 @@ impl Player<'_> {
         if self.random.once_in(5) {
             self.unfit_header();
         }
-        let many = room > 50 && self.random.once_in(60);
+        let many = room > 50 && self.random.once_in(30);
         self.plan = Plan {
             transactions: match many {
                 true => 34,
@@ -124,7 +128,7 @@ impl Player<'_> {
         self.hand(row);
     }
 
-    fn add_plain(&mut self, identity: Identity) {
+    pub fn add_plain(&mut self, identity: Identity) {
         let row = pool::plain(self.random, identity);
         self.hand(row);
     }

@@ -1,11 +1,15 @@
 //! A script of histories: extracts in a row over a small store, of few trains, days and stations,
 //! so that keys meet and boards have lines. Most calls are lawful, and faults of every sort are
-//! planted among them. In about a quarter of the histories the second controller has calls of its
-//! own, most often the same transactions with the trains in another order.
+//! planted among them. About one in eight calls asks for a page, and in some histories so many
+//! trains run from one station that a page has not room for all. In about a quarter of the
+//! histories the second controller has calls of its own, most often the same transactions with the
+//! trains in another order.
 
+mod crowd;
 mod extracts;
 mod faults;
 mod others;
+mod pages;
 mod player;
 mod pool;
 
@@ -15,7 +19,7 @@ use player::Player;
 use pool::Pool;
 
 /// The most calls of a history, both controllers' together but for a few.
-const MOST: usize = 200;
+const MOST: usize = 230;
 
 /// The lines of a script with so many histories.
 pub fn script(random: &mut SplitMix, count: usize) -> Vec<Vec<u8>> {
@@ -23,14 +27,22 @@ pub fn script(random: &mut SplitMix, count: usize) -> Vec<Vec<u8>> {
 }
 
 fn history(random: &mut SplitMix) -> Vec<Vec<u8>> {
-    let slots = slots(random);
+    let crowded = random.once_in(6);
+    let slots = if crowded {
+        11 + random.index(14)
+    } else {
+        slots(random)
+    };
     let line_slots = line_slots(random, slots);
     let pool = Pool::new(random);
     let others = random.once_in(4);
     let most = if others { MOST / 2 } else { MOST };
     let wanted = 30 + random.index(most - 60);
     let mut player = Player::new(random, &pool, slots, line_slots);
-    player.play(wanted, most);
+    if crowded {
+        player.crowd();
+    }
+    player.play(wanted.max(player.calls.len()), most);
     let calls = player.calls.clone();
     let mut lines = vec![format!("new {slots} {line_slots}").into_bytes()];
     lines.extend(calls.iter().map(Call::line));

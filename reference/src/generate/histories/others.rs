@@ -30,6 +30,9 @@ impl Player<'_> {
         for _ in 0..self.random.index(4) {
             self.tell();
         }
+        for _ in 0..self.random.index(4) {
+            self.page();
+        }
     }
 
     fn turn_again(&mut self, told: &Told) {
@@ -44,6 +47,7 @@ impl Player<'_> {
             if self.random.once_in(40) {
                 self.tell();
             }
+            self.perhaps_page();
             if !self.hand(row.clone()) {
                 return false;
             }

@@ -11,6 +11,8 @@ use crate::stores::record::Key;
 const TRAINS: [u32; 8] = [
     0, 1, 99_999, 100_000, 212_345, 212_346, 1_000_000, 2_599_999,
 ];
+/// The first of the trains that a crowd is of.
+const CROWD: u32 = 500_000;
 const STATIONS: [&str; 8] = [
     "HALTA", "HALTAJN", "SANDPT", "WESTBAY", "A", "0", "Z9", "ABCDEFG",
 ];
@@ -45,6 +47,26 @@ impl Pool {
                 .collect(),
             monday,
         }
+    }
+
+    /// The day that the history is about.
+    pub fn monday(&self) -> u32 {
+        self.monday
+    }
+
+    /// The BS row of the train of this number in a crowd, which runs every day for a while, the
+    /// Monday among them.
+    pub fn schedule_of_crowd(&self, random: &mut SplitMix, number: u32) -> Vec<u8> {
+        let first = self.monday - random.below(8);
+        let key = Key {
+            uid: Uid(CROWD + number),
+            first: Date::at_number(first),
+            stp: *random.choose(&[StpLetter::Permanent, StpLetter::NewShortTerm]),
+        };
+        let mut row = basic_schedule(random, b'N', key);
+        put_days(&mut row, first, (self.monday + 9).min(DAYS - 1));
+        put(&mut row, 22, b"1111111");
+        row
     }
 
     /// A station that trains call at, filled up with blanks.

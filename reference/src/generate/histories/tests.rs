@@ -37,10 +37,40 @@ fn most_histories_confirm_and_half_of_them_show() {
 
 #[test]
 fn every_refusal_is_told() {
-    for number in 1..=15 {
+    for number in 1..=18 {
         let times = format!("\nrefused {number}: ");
         assert!(played().contains(&times), "{number}");
     }
+}
+
+/// How many lines each page has.
+fn lines_of_pages() -> Vec<usize> {
+    played()
+        .split(" page: done\n")
+        .skip(1)
+        .map(|text| {
+            let rows = text.lines().skip(2).take(10);
+            rows.filter(|row| !row.starts_with("|    ")).count()
+        })
+        .collect()
+}
+
+#[test]
+fn pages_are_full_or_not() {
+    let pages = lines_of_pages();
+    let times = |lines| pages.iter().filter(|page| **page == lines).count();
+    let (none, full) = (times(0), times(10));
+    assert!(none < pages.len() * 3 / 5, "{none} without lines");
+    assert!(full > pages.len() / 60, "{full} full");
+}
+
+#[test]
+fn one_call_in_eight_is_a_page() {
+    let lines = script(&mut SplitMix::new(6), COUNT);
+    let beginning = |word: &[u8]| lines.iter().filter(|line| line.starts_with(word)).count();
+    let calls = lines.len() - beginning(b"new ") - beginning(b"other");
+    let pages = beginning(b"page ");
+    assert!((7..=9).contains(&(calls / pages)), "{pages} of {calls}");
 }
 
 #[test]
@@ -59,7 +89,7 @@ fn boards_are_the_same_with_the_trains_in_another_order() {
     for slots in 0..60 {
         let (slots, pool) = (slots % 15, Pool::new(random));
         let mut player = Player::new(random, &pool, slots, 2 * slots);
-        player.play(80, 120);
+        player.play(92, 138);
         let (told, board) = (player.told(), player.side.board);
         let mut other = Player::new(random, &pool, slots, 2 * slots);
         other.play_again(&told);
@@ -68,5 +98,5 @@ fn boards_are_the_same_with_the_trains_in_another_order() {
             lines += board.lines().len();
         }
     }
-    assert!(lines > 60);
+    assert!(lines > 60, "{lines}");
 }
