@@ -1,5 +1,7 @@
 use super::{Kind, Request};
-use crate::stores;
+use crate::refusal::Reason;
+use crate::stores::store::Store;
+use crate::stores::{self, Refused};
 
 /// The worked week: permanent, overlay, and a cancellation on the Wednesday.
 const WEEK: [(&str, char); 7] = [
@@ -12,13 +14,18 @@ const WEEK: [(&str, char); 7] = [
     ("BSNC123452403062403060010000    1A23", 'C'),
 ];
 
-/// What is printed over a store of so many slots for the worked week.
-fn told(slots: usize, station: &str, date: &str) -> String {
+/// A store of so many slots that the worked week fills, and how many puts it refused.
+fn week(slots: usize) -> (Store, Refused) {
     let rows: Vec<String> = WEEK
         .iter()
         .map(|(bytes, letter)| format!("{bytes:79}{letter}\n"))
         .collect();
-    let (store, refused) = stores::filled_from(slots, rows.concat().as_bytes());
+    stores::filled_from(slots, rows.concat().as_bytes())
+}
+
+/// What is printed over a store of so many slots for the worked week.
+fn told(slots: usize, station: &str, date: &str) -> String {
+    let (store, refused) = week(slots);
     let request = Request {
         kind: Kind::Bag,
         slots,
@@ -46,6 +53,34 @@ fn the_worked_week() {
         "240311",
         "09:05 SANDPT  platform 4   operator    identity 1A23\nlines 1",
     );
+}
+
+/// What is told of so many pages over the worked week.
+fn pages(times: u64, date: &str) -> Result<u64, Reason> {
+    let (store, _) = week(3);
+    let request = Request {
+        kind: Kind::Table,
+        slots: 3,
+        station: "HALTA".into(),
+        date: date.into(),
+    };
+    request.sum_of_pages(times, &store)
+}
+
+#[test]
+fn sums_of_pages() {
+    let sum = |text: &str| text.bytes().map(u64::from).sum::<u64>();
+    let heading = sum("HALTA") + 19 * 32;
+    let blank = heading + 240 * 32;
+    let full = heading + sum("0915 SANDPT  5B     1A24") + 216 * 32;
+    assert_eq!(pages(0, "240304"), Ok(0));
+    assert_eq!(pages(1, "240304"), Ok(full));
+    assert_eq!(pages(556, "240304"), Ok(556 * full));
+    assert_eq!(pages(557, "240304"), Ok(556 * full + blank));
+    assert_eq!(pages(1_440, "240304"), Ok(556 * full + 884 * blank));
+    assert_eq!(pages(1_441, "240304"), Ok(557 * full + 884 * blank));
+    assert_eq!(pages(3, "240306"), Ok(3 * blank));
+    assert_eq!(pages(3, "240230"), Err(Reason::Station));
 }
 
 #[test]
