@@ -1,5 +1,5 @@
 -- The heading of a page.
-use Rattle.std.specs.Prelude.{ℕ, if◌then◌else◌, List, [], ◌∷◌, reverse, cond, length, ◌==◌}
+use Rattle.std.specs.Prelude.{ℕ, if◌then◌else◌, List, [], ◌∷◌, reverse}
 use Rattle.forms.specs.Bytes.{is_blank}
 
 -- a text without the blanks that it begins with

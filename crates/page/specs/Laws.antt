@@ -1,10 +1,8 @@
 -- What stands where on a page, which lines it shows, and what its heading is.
 use Rattle.std.specs.Prelude.{◌≡◌, ℕ, ◌+◌, ◌*◌, ◌<◌, ◌≤◌, true, false, not, ◌⊎◌, List, [], ◌++◌, length, reverse, Some, get_or, slice_get}
 use Rattle.std.specs.List.{list_all}
-use Rattle.maps.specs.Maps.{ascending}
 use Rattle.forms.specs.Bytes.{is_blank}
 use Rattle.board.specs.declared.line.Line.{Line}
-use Rattle.board.specs.Lines.{line_before, line_key}
 use Rattle.page.specs.Rows.{hour_minute}
 use Rattle.page.specs.Pages.{departs_from, page_of}
 
@@ -31,7 +29,7 @@ pub record ShowsLine (page : List ℕ) (row : ℕ) (l : Line) : Type 0 where
 -- a page by its places: the heading cut at 24, a line in each row below it from the first on, and blanks in the rows past the lines
 pub record LaidOut (heading : List ℕ) (lines : List Line) (page : List ℕ) : Type 0 where
   pub bytes : length page ≡ 264
-  pub heading : Has page 0 0 24 heading
+  pub first : Has page 0 0 24 heading
   pub shown : (k : ℕ) (l : Line) → k < 10 → slice_get lines k ≡ Some l → ShowsLine page (k + 1) l
   pub past : (k : ℕ) → k < 10 → length lines ≤ k → Has page (k + 1) 0 24 []
 

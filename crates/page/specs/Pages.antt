@@ -1,5 +1,5 @@
 -- The page of a board.
-use Rattle.std.specs.Prelude.{ℕ, Bool, not, List, [], ◌∷◌, ◌++◌, length, take, filter, Some, None, Option, nat_le, nat_lt, ◌==◌, slice_get}
+use Rattle.std.specs.Prelude.{ℕ, Bool, not, List, [], ◌∷◌, ◌++◌, take, filter, Some, None, Option, nat_le, nat_lt, ◌==◌, slice_get}
 use Rattle.std.specs.List.{range_with_len, flat_map, list_all}
 use Rattle.std.specs.Option.{option_map_or}
 use Rattle.cif.specs.declared.refusal.Refusal.TheVariants.{PageLength, NoSuchMinute, BadNameByte}

@@ -32,7 +32,7 @@ row_of fields = map (byte_of fields) (range_with_len 1 24)
 
 -- two digits
 abbrev pub two_digits : ℕ → List ℕ
-two_digits n = 48 + n / 10 ∷ 48 + n % 10 ∷ []
+two_digits n = (48 + n / 10) ∷ (48 + n % 10) ∷ []
 
 -- the hour and the minute of a minute of the day
 abbrev pub hour_minute : ℕ → List ℕ

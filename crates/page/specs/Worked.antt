@@ -1,5 +1,5 @@
 -- Worked cases of pages.
-use Rattle.std.specs.Prelude.{◌≡◌, ℕ, List, codes}
+use Rattle.std.specs.Prelude.{◌≡◌, codes}
 use Rattle.board.specs.declared.line.Line.{Line}
 use Rattle.page.specs.Headings.{heading_of}
 use Rattle.page.specs.Rows.{row_of, line_fields}

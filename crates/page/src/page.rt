@@ -8,7 +8,7 @@ ghost use Rattle.board.specs.Boards.{shown_of, lines_of};
 ghost use Rattle.board.specs.Lines.{line_before, line_key};
 ghost use Rattle.page.specs.Headings.{heading_of};
 ghost use Rattle.page.specs.Pages.{first_ten, tiploc_of, page_of, page_for, page_lines};
-ghost use Rattle.page.specs.Laws.{LaidOut, ShownFrom};
+ghost use Rattle.page.specs.Laws.{HeadingFrom, LaidOut, ShownFrom};
 
 use crate::heading::heading;
 use crate::rows::{COLUMNS, heading_row, line_row};
@@ -26,7 +26,8 @@ pub const PAGE_LENGTH: usize = (1 + LINES) * COLUMNS;
 // The last minute of a day.
 const LAST_MINUTE: u32 = 1_439;
 
-// Whether a page can be written: it has as many bytes as a page, the minute is one of a day, and each byte of the name is printable.
+// Whether a page can be written: it has as many bytes as a page, the minute is one of a day, and each
+// byte of the name is printable.
 fn check(length: usize, minute: u32, name: &[u8]) -> Result<(), ColumnFault>
     ensures { fault_of result ≡ uppermost (page_lines name.now minute length) }
 {
@@ -45,8 +46,7 @@ fn check(length: usize, minute: u32, name: &[u8]) -> Result<(), ColumnFault>
 // The first ten lines that depart at or after a minute, of lines in order.
 fn first_ten(lines: &[Line], minute: u32) -> &[Line]
     requires { ascending line_before line_key lines.now ≡ true }
-    ensures value { result.now ≡ first_ten minute lines.now }
-    ensures shown { ShownFrom minute lines.now result.now }
+    ensures { result.now ≡ first_ten minute lines.now }
 {
     let first = lines.partition_point(|line| u32::from(line.key.minute) < minute);
     let later = &lines[first..];
@@ -92,6 +92,8 @@ pub fn write_page(
     ensures places { OnOk result
         (LaidOut (heading_of name.now (tiploc_of (shown_of board.now)))
         (first_ten minute (lines_of board.now)) page.new) }
+    ensures heading { HeadingFrom name.now (tiploc_of (shown_of board.now))
+        (heading_of name.now (tiploc_of (shown_of board.now))) }
     ensures shown { ShownFrom minute (lines_of board.now) (first_ten minute (lines_of board.now)) }
     ensures unchanged { OnErr result (page.new ≡ page.old) }
 {

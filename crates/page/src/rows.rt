@@ -1,6 +1,6 @@
 // The rows of a page.
 ghost use Rattle.std.specs.Prelude.{◌≡◌, ◌+◌, ◌≤◌, ◌<◌, ◌++◌, length, take, drop};
-ghost use Rattle.page.specs.Rows.{two_digits, hour_minute, row_of, line_fields, heading_fields};
+ghost use Rattle.page.specs.Rows.{two_digits, row_of, line_fields, heading_fields};
 
 use board::line::Line;
 
@@ -13,15 +13,6 @@ fn two_digits(number: u16) -> [u8; 2]
     ensures { result ≡ two_digits number }
 {
     [b'0' + (number / 10) as u8, b'0' + (number % 10) as u8]
-}
-
-// The hour and the minute of a minute of the day, two digits each.
-fn hour_minute(minute: u16) -> [u8; 4]
-    ensures { result ≡ hour_minute minute }
-{
-    let [h, our] = two_digits(minute / 60);
-    let [m, inute] = two_digits(minute % 60);
-    [h, our, m, inute]
 }
 
 // Puts a text into a row, from a place on that counts from 0.
@@ -37,7 +28,8 @@ pub(crate) fn line_row(line: &Line) -> [u8; COLUMNS]
     ensures { result ≡ row_of (line_fields line.now) }
 {
     let mut row = [b' '; COLUMNS];
-    put(&mut row, 0, &hour_minute(line.key.minute));
+    put(&mut row, 0, &two_digits(line.key.minute / 60));
+    put(&mut row, 2, &two_digits(line.key.minute % 60));
     put(&mut row, 5, &line.destination);
     put(&mut row, 13, &line.platform);
     put(&mut row, 17, &line.operator);

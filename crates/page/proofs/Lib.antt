@@ -1,0 +1,5 @@
+pub mod RowBytes
+pub mod Blanks
+pub mod Shown
+pub mod PageRows
+pub mod Laid
