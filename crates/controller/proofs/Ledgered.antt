@@ -19,7 +19,7 @@ use Rattle.extract.specs.Judging.{Standing, is_misplaced, is_no_opening}
 use Rattle.controller.specs.declared.fault.ExtractFault.{ExtractFault}
 use Rattle.controller.specs.declared.answer.Answer.{Answer}
 use Rattle.controller.specs.declared.answer.Answer.TheVariants.{Refused}
-use Rattle.controller.specs.Calls.{Call, Open, Row, Confirm, Abandon, Turn, Tell, Tally, refusal_of, refusals, told_with}
+use Rattle.controller.specs.Calls.{Call, Open, Row, Confirm, Abandon, Turn, Page, Tell, Tally, refusal_of, refusals, told_with}
 use Rattle.controller.specs.Ledger.{Ledger, ledger_after, ledger_with, store_for, standing_of, Accepts, AnswerOf, is_accepted}
 use Rattle.controller.specs.ScheduleRows.{IsTaken, AreTaken, standing_after}
 use Rattle.controller.specs.ExtractRows.{ComeTo, idle_over}
@@ -90,6 +90,7 @@ accepted_keeps ℓ capacity slots (Row row) r t = row_more (store_for ℓ capaci
 accepted_keeps ℓ capacity slots Confirm r t = tt
 accepted_keeps ℓ capacity slots Abandon r t = tt
 accepted_keeps ℓ capacity slots (Turn station day) r t = t
+accepted_keeps ℓ capacity slots (Page name minute bytes) r t = t
 accepted_keeps ℓ capacity slots (Tell place) r t = t
 accepted_keeps ℓ capacity slots Tally r t = t
 

@@ -10,6 +10,7 @@ use Rattle.cif.specs.Refusals.{TableLine, line, uppermost, then, map_err, in_row
 use Rattle.cif.specs.Rows.{row_lines, identity_in, whole_in}
 use Rattle.cif.specs.Reading.{read_in, field_lines_in, told_in, letters_in, blanks}
 use Rattle.board.specs.Turning.{turn_lines, slot_lines}
+use Rattle.page.specs.Pages.{page_lines}
 use Rattle.extract.specs.declared.stage.Stage.{Stage}
 use Rattle.extract.specs.Stages.{is_idle, is_complete}
 use Rattle.extract.specs.Progress.{Progress}
@@ -17,13 +18,14 @@ use Rattle.extract.specs.Judging.{Standing, content_lines, verdict_unless, is_mi
 use Rattle.controller.specs.declared.fault.ExtractFault.{ExtractFault}
 use Rattle.controller.specs.Faults.{in_extract}
 
--- a call with its arguments, other than controller and board
+-- a call with its arguments, other than controller and board; of the memory that page is handed it has the number of bytes
 pub data Call : Type 0 where
   Open : List ℕ → Call
   Row : List ℕ → Call
   Confirm : Call
   Abandon : Call
   Turn : List ℕ → ℕ → Call
+  Page : List ℕ → ℕ → ℕ → Call
   Tell : ℕ → Call
   Tally : Call
 
@@ -64,10 +66,12 @@ value_in (Err e) = None
 abbrev pub held_lines : Standing → Option Content → List TableLine
 held_lines s content = option_map_or (content_lines s) content []
 
--- the lines of the table that ask for the board; with a call that is given none, any number may stand for its line slots
+-- the lines of the table that ask for the board, or for what page is given; with a call that is given no board, any number may stand for
+-- its line slots
 abbrev pub board_lines : Call → ℕ → ℕ → List TableLine
 board_lines Confirm slots capacity = slot_lines slots capacity
 board_lines (Turn station day) slots capacity = turn_lines station day slots capacity
+board_lines (Page name minute bytes) slots capacity = page_lines name minute bytes
 board_lines _ slots capacity = []
 
 -- those lines of the table that can hold of a confirmation: the extract is not complete, or the line slots are too few
@@ -81,7 +85,7 @@ refusals call s slots =
     ++ (line OutOfPlace (place_column call) (is_out_of_place call s.extract.stage)  -- 4
     ∷ (on_row call (λ row. field_lines_in (identity_in row) row)  -- 5 and 6: forms of the fields, order of the days
     ++ (on_row call (λ row. held_lines s (value_in (read_in row)))  -- 7 to 13: references, keys, calls, rows, room
-    ++ board_lines call slots s.store.capacity)))  -- 14 and 15: station and day, line slots
+    ++ board_lines call slots s.store.capacity)))  -- 14 to 18: station and day, line slots, a page
 
 -- a fault is told with the row's identity and number, or with blanks and 0 where there is no row
 abbrev pub told_at : Option (List ℕ) → ℕ → ColumnFault → ExtractFault

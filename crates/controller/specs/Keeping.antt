@@ -15,7 +15,7 @@ use Rattle.controller.specs.declared.controller.Controller.{Controller}
 use Rattle.controller.specs.Shown.{standing_in, count_of}
 use Rattle.controller.specs.Calls.{Call, Confirm}
 use Rattle.controller.specs.Agreeing.{Agrees}
-use Rattle.controller.specs.Ledger.{Ledger, ledger_after, confirmed_map, tally_of, LinesOf, AnswerOf, is_accepted, has_train}
+use Rattle.controller.specs.Ledger.{Ledger, ledger_after, confirmed_map, tally_of, LinesOf, AnswerOf, Writes, is_accepted, has_train}
 
 -- how a controller and its board stand: what calls are judged by, the tally, and the board's station and day, lines and line slots
 pub record State : Type 0 where
@@ -69,3 +69,7 @@ pub record Obeys (before after : State) (call : Call) (answer : Answer) : Type 0
   pub ledger : (ℓ : Ledger) → KeepsTo before ℓ → Obeyed before after call answer ℓ
   pub capacity : after.standing.store.capacity ≡ before.standing.store.capacity
   pub slots : after.slots ≡ before.slots
+
+-- what an accepted call writes goes by every ledger that was kept to before it
+abbrev pub WritesByLedger : State → Call → List ℕ → Type 0
+WritesByLedger before call written = (ℓ : Ledger) → KeepsTo before ℓ → Writes ℓ call written

@@ -11,10 +11,11 @@ use Rattle.extract.specs.Judging.{Standing}
 use Rattle.board.specs.declared.display.StationDay.{StationDay}
 use Rattle.board.specs.declared.line.Line.{Line}
 use Rattle.board.specs.Lines.{LinesFor}
+use Rattle.page.specs.Pages.{page_for}
 use Rattle.controller.specs.declared.fault.ExtractFault.{ExtractFault}
 use Rattle.controller.specs.declared.answer.Answer.{Answer}
 use Rattle.controller.specs.declared.answer.Answer.TheVariants.{Done, Refused, Told, Tally as Total}
-use Rattle.controller.specs.Calls.{Call, Open, Row, Confirm, Abandon, Turn, Tell, Tally, refusal_of}
+use Rattle.controller.specs.Calls.{Call, Open, Row, Confirm, Abandon, Turn, Page, Tell, Tally, refusal_of}
 
 -- what the store had in it at the start, the rows of the open extract as raw bytes, the confirmed transactions in order,
 -- the reference in force, and the station and day last turned to, if any
@@ -89,6 +90,12 @@ pub record Tells (ℓ : Ledger) (place : ℕ) (answer : Answer) : Type 0 where
   pub are : LinesOf ℓ lines
   pub line : answer ≡ Told (slice_get lines place)
 
+-- the page: that of the lines, at the station
+pub record PageOf (ℓ : Ledger) (name : List ℕ) (minute : ℕ) (page : List ℕ) : Type 0 where
+  pub lines : List Line
+  pub are : LinesOf ℓ lines
+  pub shows : page ≡ page_for ℓ.shown lines name minute
+
 -- the answer to a call that is not refused
 abbrev pub Accepts : Ledger → Call → Answer → Type 0
 Accepts ℓ (Tell place) a = Tells ℓ place a
@@ -109,6 +116,11 @@ is_accepted _ = true
 abbrev pub answer_of : Result (Unit {0}) ExtractFault → Answer
 answer_of (Ok u) = Done
 answer_of (Err f) = Refused f
+
+-- what an accepted call writes into the memory that it is handed, from its first byte on: page writes the page, any other call nothing
+abbrev pub Writes : Ledger → Call → List ℕ → Type 0
+Writes ℓ (Page name minute bytes) written = PageOf ℓ name minute written
+Writes ℓ _ written = written ≡ []
 
 -- whether some of the transactions are of a train
 abbrev pub has_train : List Change → ℕ → Bool

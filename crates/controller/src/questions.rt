@@ -1,15 +1,21 @@
 // What can be asked of a controller and of its board.
-ghost use Rattle.std.specs.Prelude.{◌≡◌, ℕ, length, slice_get};
+ghost use Rattle.std.specs.Prelude.{◌≡◌, ℕ, length, OnOk, OnErr, slice_get};
+ghost use Rattle.cif.specs.Refusals.{fault_of};
 ghost use Rattle.extract.specs.Judging.{Standing};
-ghost use Rattle.board.specs.Boards.{lines_of};
+ghost use Rattle.board.specs.Boards.{lines_of, shown_of, slots_of};
+ghost use Rattle.page.specs.Pages.{page_for};
 ghost use Rattle.controller.specs.declared.answer.Answer.TheVariants.{Told, Tally as Total};
-ghost use Rattle.controller.specs.Calls.{Tell as ToTell, Tally as ToTally};
-ghost use Rattle.controller.specs.Keeping.{Obeys, state};
+ghost use Rattle.controller.specs.Calls.{Page as ToPage, Tell as ToTell, Tally as ToTally, refusal_of};
+ghost use Rattle.controller.specs.Keeping.{Obeys, WritesByLedger, state};
+ghost use Rattle.controller.specs.Ledger.{answer_of};
 
 use crate::controller::Controller;
+use crate::fault::ExtractFault;
+use crate::telling::without_row;
 use board::display::Board;
 use board::line::Line;
 use extract::stage::Stage;
+use page::page::write_page;
 use schedule::transaction::Change;
 
 impl<S> Controller<S> {
@@ -52,6 +58,29 @@ impl<S> Controller<S> {
     {
         self.tally
     }
+}
+
+/// Writes the page of a board: a heading, from the local name or the board's TIPLOC, and the first ten lines that depart at or
+/// after a minute of the day. Name, page and minute may be any. A page that is not of 264 bytes is refused with 16, a minute above
+/// 1,439 with 17, and a byte of the name outside 32 to 126 with 18; then the page does not change. The board never does.
+pub fn page(
+    board: &Board<'_>,
+    page: &mut [u8],
+    name: &[u8],
+    minute: u32,
+) -> Result<(), ExtractFault>
+    ensures told { (s : Standing) → fault_of result
+        ≡ refusal_of (ToPage name.now minute (length page.old)) s (slots_of board.now) }
+    ensures page { OnOk result
+        (page.new ≡ page_for (shown_of board.now) (lines_of board.now) name.now minute) }
+    ensures unchanged { OnErr result (page.new ≡ page.old) }
+    ensures obeys { (s : Standing) (tally : ℕ) → let here = state s tally board.now in
+        Obeys here here (ToPage name.now minute (length page.old)) (answer_of result) }
+    ensures writes { (s : Standing) (tally : ℕ) → OnOk result
+        (WritesByLedger (state s tally board.now) (ToPage name.now minute (length page.old))
+        page.new) }
+{
+    without_row(write_page(board, page, name, minute))
 }
 
 /// The line of a board at a place counted from 0, or none past its lines.
