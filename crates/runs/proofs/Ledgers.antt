@@ -17,7 +17,7 @@ use Rattle.board.specs.declared.line.Line.{Line}
 use Rattle.board.specs.Lines.{LinesFor}
 use Rattle.board.proofs.Boards.{board_one}
 use Rattle.board.proofs.Trains.{cancelled}
-use Rattle.controller.specs.Calls.{Call, Open, Row, Confirm, Abandon, Turn, Tell, Tally}
+use Rattle.controller.specs.Calls.{Call, Open, Row, Confirm, Abandon, Turn, Page, Tell, Tally}
 use Rattle.controller.specs.Ledger.{Ledger, Entry, without_rows, ledger_after, ledger_after_all, confirmed_map}
 use Rattle.runs.specs.Laws.{AbandonLeavesNoTrace, ShownIgnoresExtract, TwoOrdersOneMap, SameTrainsSameLines, CancelledNeverShown, NothingWithoutConfirm, reads_only, with_rows, confirms_nothing, SameConfirmed, ConfirmedCouldBeDone}
 
@@ -29,6 +29,7 @@ step_reads ℓ (Row row) true h = refl
 step_reads ℓ Confirm true h = absurd (false≢true h)
 step_reads ℓ Abandon true h = refl
 step_reads ℓ (Turn station day) true h = absurd (false≢true h)
+step_reads ℓ (Page name minute bytes) true h = refl
 step_reads ℓ (Tell place) true h = refl
 step_reads ℓ Tally true h = refl
 
@@ -75,6 +76,7 @@ step_keeps ℓ (Row row) true h = kept ℓ (ℓ.rows ++ row ∷ []) ℓ.shown
 step_keeps ℓ Confirm true h = absurd (false≢true h)
 step_keeps ℓ Abandon true h = kept ℓ [] ℓ.shown
 step_keeps ℓ (Turn station day) true h = kept ℓ ℓ.rows (Some (record { station = station; day = day }))
+step_keeps ℓ (Page name minute bytes) true h = kept ℓ ℓ.rows ℓ.shown
 step_keeps ℓ (Tell place) true h = kept ℓ ℓ.rows ℓ.shown
 step_keeps ℓ Tally true h = kept ℓ ℓ.rows ℓ.shown
 
@@ -109,6 +111,7 @@ step_start ℓ (Row row) true = refl
 step_start ℓ Confirm true = refl
 step_start ℓ Abandon true = refl
 step_start ℓ (Turn station day) true = refl
+step_start ℓ (Page name minute bytes) true = refl
 step_start ℓ (Tell place) true = refl
 step_start ℓ Tally true = refl
 

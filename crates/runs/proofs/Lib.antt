@@ -1,4 +1,5 @@
 pub mod Ledgers
+pub mod Installations
 pub mod Runs
 pub mod Pairs
 pub mod WholeRuns

@@ -1,19 +1,20 @@
 -- Calls as values, how an installation stands, and the ledger of the calls that were made.
-use Rattle.std.specs.Prelude.{◌≡◌, ℕ, Bool, true, false, List, [], ◌∷◌, take}
+use Rattle.std.specs.Prelude.{◌≡◌, ℕ, min, Bool, true, false, List, [], ◌∷◌, ◌++◌, length, map, take, drop}
 use Rattle.schedule.specs.declared.transaction.Change.{Change}
 use Rattle.timetable.specs.Timetables.{Meaning, StoreEdit}
 use Rattle.overlay.specs.Settling.{edits_of}
 use Rattle.controller.specs.declared.answer.Answer.{Answer}
-use Rattle.controller.specs.Calls.{Call, Open, Row, Confirm, Abandon, Turn, Tell, Tally}
-use Rattle.controller.specs.Ledger.{Ledger, new_ledger, Entry, ledger_after_all, is_accepted}
+use Rattle.controller.specs.Calls.{Call, Open, Row, Confirm, Abandon, Turn, Page, Tell, Tally}
+use Rattle.controller.specs.Ledger.{Ledger, new_ledger, Entry, ledger_after_all, is_accepted, Writes}
 use Rattle.controller.specs.Keeping.{State, state_in, KeepsTo, Obeys, is_confirm}
 use Rattle.controller.specs.Shown.{store_of, progress_in}
 use Rattle.board.specs.Boards.{SlotsKept}
 use Rattle.std.specs.Bool.{OnFalse}
 use Rattle.controller.specs.LedgerRows.{RowsAreTaken}
 use Rattle.runs.specs.declared.call.Call.{Call as Asked}
-use Rattle.runs.specs.declared.call.Call.TheVariants.{Open as AsksOpen, Row as AsksRow, Confirm as AsksConfirm, Abandon as AsksAbandon, Turn as AsksTurn, Tell as AsksTell, Tally as AsksTally}
+use Rattle.runs.specs.declared.call.Call.TheVariants.{Open as AsksOpen, Row as AsksRow, Confirm as AsksConfirm, Abandon as AsksAbandon, Turn as AsksTurn, Page as AsksPage, Tell as AsksTell, Tally as AsksTally}
 use Rattle.runs.specs.declared.installation.Installation.{Installation}
+use Rattle.runs.specs.declared.memory.Memory.{Memory}
 
 -- a call as a value, by what it is given
 abbrev pub call_meant : Asked → Call
@@ -22,8 +23,43 @@ call_meant (AsksRow row) = Row row.now
 call_meant AsksConfirm = Confirm
 call_meant AsksAbandon = Abandon
 call_meant (AsksTurn station day) = Turn station.now day
+call_meant (AsksPage bytes name minute) = Page name.now minute bytes
 call_meant (AsksTell place) = Tell place
 call_meant AsksTally = Tally
+
+-- how many bytes a memory has
+abbrev pub room_of : Memory → ℕ
+room_of m = length m.bytes.now
+
+-- a call within a memory of so many bytes: it is handed as many as it says, or all there are where there are fewer
+abbrev pub call_within : ℕ → Call → Call
+call_within room (Page name minute bytes) = Page name minute (min bytes room)
+call_within room call = call
+
+-- calls as values, within such a memory
+abbrev pub calls_within : ℕ → List Asked → List Call
+calls_within room calls = map (λ q. call_within room (call_meant q)) calls
+
+-- what a call writes by the ledger, whether it is accepted or refused: a refused one writes nothing
+abbrev pub WritesWhere : Bool → Ledger → Call → List ℕ → Type 0
+WritesWhere true ℓ call written = Writes ℓ call written
+WritesWhere false ℓ call written = written ≡ []
+
+-- bytes, when others are written over them from the first one on
+abbrev pub written_over : List ℕ → List ℕ → List ℕ
+written_over bytes written = written ++ drop (length written) bytes
+
+-- what a call leaves of bytes by the ledger: what it writes stands over what stood there, and no byte is lost
+pub record LeavesBytes (ℓ : Ledger) (call : Call) (accepted : Bool) (before after : List ℕ) : Type 0 where
+  pub written : List ℕ
+  pub writes : WritesWhere accepted ℓ call written
+  pub over : after ≡ written_over before written
+  pub room : length after ≡ length before
+
+-- what a call leaves of a memory, which stays the same lender's
+pub record Leaves (ℓ : Ledger) (call : Call) (accepted : Bool) (before after : Memory) : Type 0 where
+  pub bytes : LeavesBytes ℓ call accepted before.bytes.now after.bytes.now
+  pub lender : after.bytes.ghost_name ≡ before.bytes.ghost_name
 
 -- how an installation stands
 abbrev pub stands : {S : Type 0} → (S → Meaning) → Installation S → State
@@ -45,18 +81,24 @@ pub record Does {S : Type 0} (meaning : S → Meaning) (becomes : S → List Sto
   pub store_stays : is_confirm call ≡ false → store_of after.controller ≡ store_of before.controller
   pub rest : SlotsKept before.board after.board
 
+-- what a call to an installation does to a memory: it has what the call writes by every ledger that was kept to before, and a refused call
+-- changes nothing
+pub record DoesTo {S : Type 0} (meaning : S → Meaning) (before : Installation S) (lent left : Memory) (call : Call) (answer : Answer) : Type 0 where
+  pub leaves : (ℓ : Ledger) → KeepsTo (stands meaning before) ℓ → Leaves ℓ call (is_accepted answer) lent left
+  pub untouched : OnFalse (is_accepted answer) (left ≡ lent)
+
 -- calls as they are written down: each with whether its answer says that it was accepted
-abbrev pub entries : List Asked → List Answer → List Entry
+abbrev pub entries : List Call → List Answer → List Entry
 entries [] answers = []
 entries (q ∷ qs) [] = []
-entries (q ∷ qs) (a ∷ rest) = (call_meant q, is_accepted a) ∷ entries qs rest
+entries (q ∷ qs) (a ∷ rest) = (q, is_accepted a) ∷ entries qs rest
 
 -- an installation begins with nothing written down, over an empty store
 abbrev pub first_ledger : Ledger
 first_ledger = new_ledger []
 
 -- the ledger that is begun with, after the first k of some calls
-abbrev pub ledger_at : Ledger → List Asked → List Answer → ℕ → Ledger
+abbrev pub ledger_at : Ledger → List Call → List Answer → ℕ → Ledger
 ledger_at first calls answers k = ledger_after_all first (take k (entries calls answers))
 
 -- an installation keeps to a ledger, and the rows of the ledger were taken: first an HD by open, and then each other one by row

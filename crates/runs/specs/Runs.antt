@@ -11,15 +11,32 @@ use Rattle.controller.specs.Calls.{Call}
 use Rattle.controller.specs.Ledger.{Ledger, ledger_after, AnswerOf, is_accepted, has_train}
 use Rattle.controller.specs.Keeping.{State, KeepsTo, is_confirm}
 use Rattle.controller.specs.LedgerRows.{AreWhole}
-use Rattle.runs.specs.Calls.{call_meant, edits_by, stands, ledger_at}
+use Rattle.runs.specs.Calls.{call_meant, room_of, call_within, calls_within, edits_by, stands, ledger_at, Leaves}
 use Rattle.runs.specs.declared.installation.Installation.{Installation}
+use Rattle.runs.specs.declared.memory.Memory.{Memory}
 use Rattle.runs.specs.declared.call.Call.{Call as Asked}
 use Rattle.runs.specs.declared.plan.Plan.{Plan}
 use Rattle.runs.specs.declared.run.Run.{Run}
 
+-- the memory of a run
+abbrev pub memory_of : {S : Type 0} {M : _} → Run S M → Memory
+memory_of run = run.memory
+
+-- its bytes
+abbrev pub bytes_in : {S : Type 0} {M : _} → Run S M → List ℕ
+bytes_in run = (memory_of run).bytes.now
+
+-- how many there are
+abbrev pub room_in : {S : Type 0} {M : _} → Run S M → ℕ
+room_in run = room_of (memory_of run)
+
+-- the calls that it is asked
+abbrev pub calls_of : {S : Type 0} {M : _} → Run S M → List Call
+calls_of run = calls_within (room_in run) run.calls.now
+
 -- the ledger of the calls that a run has made
 abbrev pub ledger_of : {S : Type 0} {M : _} → Ledger → Run S M → Ledger
-ledger_of first run = ledger_at first run.calls.now run.answers.now run.made
+ledger_of first run = ledger_at first (calls_of run) run.answers.now run.made
 
 -- its installation
 abbrev pub installation_of : {S : Type 0} {M : _} → Run S M → Installation S
@@ -54,8 +71,11 @@ pub record Makes {S : Type 0} {M : _} (meaning : S → Meaning) (becomes : S →
   -- the store's map, the tally and the board's lines in order, before it and after it, are those that the ledger then works out afresh
   pub keeps_before : KeepsTo (state_of meaning before) (ledger_of first before)
   pub keeps_after : KeepsTo (state_of meaning after) (ledger_of first after)
-  -- a refused call leaves controller, board and every slot the values that they were
+  -- a refused call leaves controller, board, every slot and the memory the values that they were
   pub unchanged : OnFalse (is_accepted answer) (after.installation ≡ before.installation)
+  pub untouched : OnFalse (is_accepted answer) (memory_of after ≡ memory_of before)
+  -- an accepted page stands at the beginning of the memory, the page of the lines that the ledger works out afresh; nothing else is written
+  pub leaves : Leaves (ledger_of first before) call (is_accepted answer) (memory_of before) (memory_of after)
   -- around an accepted confirm the lines of the trains that the extract does not name are the same list
   pub unnamed :
       is_confirm call ≡ true → is_accepted answer ≡ true
@@ -84,7 +104,7 @@ pub record MakesNext {S : Type 0} {M : _} (meaning : S → Meaning) (becomes : S
   pub call : Asked
   pub next : slice_get before.calls.now before.made ≡ Some call
   pub goes_on : GoesOn before after answer
-  pub makes : Makes meaning becomes first before after (call_meant call) answer
+  pub makes : Makes meaning becomes first before after (call_within (room_in before) (call_meant call)) answer
 
 -- or has none left, and is the value that it was
 pub record IsOver {S : Type 0} {M : _} (before after : Run S M) : Type 0 where
@@ -101,11 +121,12 @@ pub record Suits {S : Type 0} (meaning : S → Meaning) (p : Plan S) : Type 0 wh
   pub empty : (meaning p.store).map ≡ []
   pub places : length p.answers.now ≡ length p.calls.now
 
--- a run begins: no call is made, and the store, the line slots and the places for answers are those of the plan, as they were
+-- a run begins: no call is made, and the store, the line slots, the places for answers and the memory are those of the plan, as they were
 pub record Begins {S : Type 0} {M : _} (meaning : S → Meaning) (p : Plan S) (run : Run S M) : Type 0 where
   pub suits : Suits meaning p
   pub calls : run.calls ≡ p.calls
   pub answers : run.answers ≡ p.answers
+  pub memory : memory_of run ≡ p.memory
   pub made : run.made ≡ 0
   pub store : store_in run ≡ p.store
   pub slots : HasSlots p.slots (installation_of run).board

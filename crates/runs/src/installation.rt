@@ -1,18 +1,22 @@
 // A controller with its board.
-ghost use Rattle.std.specs.Prelude.{◌≡◌};
+ghost use Rattle.std.specs.Prelude.{◌≡◌, ℕ, length, OnErr};
+ghost use Rattle.extract.specs.Judging.{Standing};
 ghost use Rattle.timetable.specs.Timetables.{IsWithinCapacity};
 ghost use Rattle.board.specs.Boards.{HasSlots};
-ghost use Rattle.controller.specs.Ledger.{new_ledger};
-ghost use Rattle.controller.specs.Keeping.{KeepsTo};
+ghost use Rattle.controller.specs.Calls.{Page as ToPage};
+ghost use Rattle.controller.specs.Ledger.{Ledger, new_ledger, answer_of, is_accepted};
+ghost use Rattle.controller.specs.Keeping.{KeepsTo, Obeys, state};
 ghost use Rattle.controller.specs.Shown.{store_of};
-ghost use Rattle.runs.specs.Calls.{call_meant, stands, Does};
+ghost use Rattle.runs.specs.Calls.{call_meant, call_within, room_of, stands, Does, DoesTo, LeavesBytes};
 
 use crate::call::Call;
+use crate::memory::Memory;
 use board::display::Board;
 use board::line::Line;
 use controller::answer::Answer;
 use controller::controller::Controller;
-use controller::questions::tell;
+use controller::fault::ExtractFault;
+use controller::questions::{page, tell};
 use timetable::Store;
 
 /// A controller, and the board that it is installed with.
@@ -20,6 +24,26 @@ use timetable::Store;
 pub struct Installation<'a, S> {
     pub controller: Controller<S>,
     pub board: Board<'a>,
+}
+
+// Writes the page of a board into the first bytes of a memory: so many, or all there are.
+fn write_page(
+    board: &Board<'_>,
+    memory: &mut [u8],
+    bytes: usize,
+    name: &[u8],
+    minute: u32,
+) -> Result<(), ExtractFault>
+    ensures obeys { (s : Standing) (tally : ℕ) → let here = state s tally board.now in
+        Obeys here here (call_within (length memory.old) (ToPage name.now minute bytes))
+        (answer_of result) }
+    ensures leaves { (s : Standing) (tally : ℕ) (ℓ : Ledger) → KeepsTo (state s tally board.now) ℓ
+        → LeavesBytes ℓ (call_within (length memory.old) (ToPage name.now minute bytes))
+        (is_accepted (answer_of result)) memory.old memory.new }
+    ensures unchanged { OnErr result (memory.new ≡ memory.old) }
+{
+    let handed = bytes.min(memory.len());
+    page(board, &mut memory[..handed], name, minute)
 }
 
 impl<'a, S: Store> Installation<'a, S> {
@@ -36,9 +60,13 @@ impl<'a, S: Store> Installation<'a, S> {
         }
     }
 
-    /// Does one call, whichever it is. What is refused, and with what, is in docs/refusals.md; then controller and board stay as they were.
-    pub fn call(&mut self, call: &Call<'_>) -> Answer
-        ensures { Does S.meaning S.Store.becomes self.old self.new (call_meant call.now) result }
+    /// Does one call, whichever it is. What is refused, and with what, is in docs/refusals.md; then controller, board and memory stay
+    /// as they were.
+    pub fn call(&mut self, call: &Call<'_>, memory: &mut Memory<'_>) -> Answer
+        ensures does { Does S.meaning S.Store.becomes self.old self.new
+            (call_within (room_of memory.old) (call_meant call.now)) result }
+        ensures memory { DoesTo S.meaning self.old memory.old memory.new
+            (call_within (room_of memory.old) (call_meant call.now)) result }
     {
         match call {
             Call::Open(row) => Answer::from(self.controller.open(row)),
@@ -47,6 +75,13 @@ impl<'a, S: Store> Installation<'a, S> {
             Call::Abandon => Answer::from(self.controller.abandon()),
             Call::Turn(station, day) => {
                 Answer::from(self.controller.turn(&mut self.board, station, *day))
+            }
+            Call::Page {
+                bytes,
+                name,
+                minute,
+            } => {
+                Answer::from(write_page(&self.board, memory.bytes, *bytes, name, *minute))
             }
             Call::Tell(place) => Answer::Told(tell(&mut self.board, *place)),
             Call::Tally => Answer::Tally(self.controller.tally()),

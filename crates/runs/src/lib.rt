@@ -4,6 +4,7 @@
 pub mod call;
 pub mod installation;
 pub mod laws;
+pub mod memory;
 pub mod pair;
 pub mod plan;
 pub mod run;

@@ -1,9 +1,10 @@
 // What a run is given.
 use crate::call::Call;
+use crate::memory::Memory;
 use board::line::Line;
 use controller::answer::Answer;
 
-/// A store, slots for the lines of a board, the calls, and a place for the answer to each.
+/// A store, slots for the lines of a board, the calls, a place for the answer to each, and memory for those that write.
 #[derive(Drop)]
 pub struct Plan<'a, S> {
     /// The store of the controller, which has to be empty.
@@ -14,4 +15,6 @@ pub struct Plan<'a, S> {
     pub calls: &'a [Call<'a>],
     /// As many places as there are calls.
     pub answers: &'a mut [Answer],
+    /// The memory that calls write into.
+    pub memory: Memory<'a>,
 }

@@ -1,6 +1,6 @@
 use Rattle.std.proofs.Common.{refl, take}
 use Rattle.runs.specs.Calls.{first_ledger, entries}
-use Rattle.runs.specs.Runs.{state_of}
+use Rattle.runs.specs.Runs.{state_of, calls_of}
 use Rattle.runs.proofs.Ledgers.{same_boards, no_map}
 use Rattle.runs.proofs.Pairs.{on_left, on_right, from_three}
 use Rattle.runs.proofs.pair.Pair.call_next.Goals as goal
@@ -13,7 +13,7 @@ returns-in-Left g c =
       asked = on_left _ c.args.side c.in-Left.is next;
       other = on_left _ c.args.side c.in-Left.is (refl {a = right});
       alike = same_boards (state_of g.S.Timetable.meaning left) (state_of g.T.Timetable.meaning right) first_ledger
-          (take left.made (entries left.calls.now left.answers.now)) (take right.made (entries right.calls.now right.answers.now)) no_map k.ledger l.ledger;
+          (take left.made (entries (calls_of left) left.answers.now)) (take right.made (entries (calls_of right) right.answers.now)) no_map k.ledger l.ledger;
     })
 
 pub returns-in-Right : goal.returns-in-Right
@@ -24,5 +24,5 @@ returns-in-Right g c =
       asked = on_right _ c.args.side c.in-Right.is next;
       other = on_right _ c.args.side c.in-Right.is (refl {a = left});
       alike = same_boards (state_of g.S.Timetable.meaning left) (state_of g.T.Timetable.meaning right) first_ledger
-          (take left.made (entries left.calls.now left.answers.now)) (take right.made (entries right.calls.now right.answers.now)) no_map k.ledger l.ledger;
+          (take left.made (entries (calls_of left) left.answers.now)) (take right.made (entries (calls_of right) right.answers.now)) no_map k.ledger l.ledger;
     })

@@ -1,0 +1,11 @@
+use Rattle.std.proofs.Common.{length, take, length-take-le, arith, ◌≤◌, ◌∙◌}
+use Rattle.controller.specs.Keeping.{state}
+use Rattle.runs.proofs.Installations.{page_leaves}
+use Rattle.runs.proofs.installation.write_page.Goals as goal
+
+pub returns-clause-leaves : goal.returns-clause-leaves
+returns-clause-leaves c s tally ℓ k =
+    let within : c.min-handed.result ≤ length c.args.memory.now = let m = c.min-handed.ensures in omega arith in
+    page_leaves (state s tally c.args.board.now) ℓ c.args.name.now c.args.minute (length (take c.min-handed.result c.args.memory.now)) _ c.min-handed.result c.args.memory.now c.page.new.page c.page.result k within
+    (c.page.auto.page ∙ length-take-le c.min-handed.result c.args.memory.now within)
+    (c.page.ensures.writes s tally) c.page.ensures.unchanged
