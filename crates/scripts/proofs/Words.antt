@@ -86,7 +86,8 @@ no_word word rest h =
       apart (codes "row") (codes "row", (refl, refl)),
       apart (codes "confirm") (codes "confirm", (refl, refl)),
       apart (codes "abandon") (codes "abandon", (refl, refl)),
-      apart (codes "turn") (codes "turn", (refl, refl)),
-      apart (codes "tell") (codes "tell", (refl, refl)),
       apart (codes "tally") (codes "tally", (refl, refl)),
+      apart (codes "turn") (codes "turn", (refl, refl)),
+      apart (codes "page") (codes "page", (refl, refl)),
+      apart (codes "tell") (codes "tell", (refl, refl)),
     )

@@ -3,7 +3,7 @@ use Rattle.std.specs.Prelude.{ℕ, if◌then◌else◌, List, [], ◌∷◌, Som
 use Rattle.std.specs.Option.{option_map}
 use Rattle.std.specs.Str.{bytes_eq}
 use Rattle.forms.specs.Bytes.{and_then}
-use Rattle.controller.specs.Calls.{Call, Open, Row, Confirm, Abandon, Turn, Tell, Tally}
+use Rattle.controller.specs.Calls.{Call, Open, Row, Confirm, Abandon, Turn, Page, Tell, Tally}
 use Rattle.scripts.specs.declared.reading.ScriptLine.{ScriptLine}
 use Rattle.scripts.specs.declared.reading.ScriptLine.TheVariants.{Nothing as IsNothing, New as IsNew, Other as IsOther, Step as IsStep}
 use Rattle.scripts.specs.Texts.{bytes_of, number_up_to}
@@ -36,9 +36,30 @@ turn_in rest =
     and_then (number_up_to 4294967295 (word_in rest)) (λ day.
     option_map (λ station. Turn station day) (bytes_of (or_empty (behind_word rest))))
 
+-- the call page that a text asks for into so many bytes: a minute, and behind a blank the local name,
+-- which may be empty and then left out with the blank
+abbrev pub page_into : ℕ → List ℕ → Option Call
+page_into bytes rest =
+    and_then (number_up_to 4294967295 (word_in rest)) (λ minute.
+    option_map (λ name. Page name minute bytes) (bytes_of (or_empty (behind_word rest))))
+
+-- the call page that a text asks for: how many bytes, and behind a blank what else
+abbrev pub page_in : List ℕ → Option Call
+page_in rest =
+    and_then (number_up_to 18446744073709551615 (word_in rest)) (λ bytes.
+    and_then (behind_word rest) (page_into bytes))
+
 -- the call tell that a text asks for: a place
 abbrev pub tell_in : List ℕ → Option Call
 tell_in place = option_map Tell (number_up_to 18446744073709551615 place)
+
+-- the call that a word and what follows it ask for, of those that are told something of a board
+abbrev pub board_call_in : List ℕ → Option (List ℕ) → Option Call
+board_call_in word rest =
+    if bytes_eq word (codes "turn") then and_then rest turn_in
+    else (if bytes_eq word (codes "page") then and_then rest page_in
+    else (if bytes_eq word (codes "tell") then and_then rest tell_in
+    else None))
 
 -- the call that a word and what follows it ask for
 abbrev pub call_in : List ℕ → Option (List ℕ) → Option Call
@@ -47,10 +68,8 @@ call_in word rest =
     else (if bytes_eq word (codes "row") then option_map Row (bytes_of (or_empty rest))
     else (if bytes_eq word (codes "confirm") then alone Confirm rest
     else (if bytes_eq word (codes "abandon") then alone Abandon rest
-    else (if bytes_eq word (codes "turn") then and_then rest turn_in
-    else (if bytes_eq word (codes "tell") then and_then rest tell_in
     else (if bytes_eq word (codes "tally") then alone Tally rest
-    else None))))))
+    else board_call_in word rest))))
 
 -- what a line means: nothing, that a history begins, that the bag's controller gets the calls that
 -- follow, or a call

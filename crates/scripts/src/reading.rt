@@ -2,7 +2,7 @@
 ghost use Rattle.std.specs.Prelude.{◌≡◌, ℕ, map, Some, None, Ok, Err, option_map, IfOk};
 ghost use Rattle.std.specs.Bool.{OnTrue, OnFalse};
 ghost use Rattle.scripts.specs.Histories.{history_of, histories_after, histories_in};
-ghost use Rattle.scripts.specs.Lines.{meaning_of, new_in, turn_in, call_in, meaning_in};
+ghost use Rattle.scripts.specs.Lines.{meaning_of, new_in, turn_in, page_into, page_in, board_call_in, call_in, meaning_in};
 ghost use Rattle.scripts.specs.Steps.{call_of};
 ghost use Rattle.scripts.specs.declared.reading.Unread.TheVariants.{Line, Memory};
 
@@ -50,6 +50,54 @@ fn turn_in(alloc: Global, rest: &[u8]) -> Result<Option<Step>, AllocError>
     Ok(station.map(|station| Step::Turn(day, station)))
 }
 
+// The call page into so many bytes that a minute and a local name ask for.
+fn page_into(alloc: Global, bytes: usize, rest: &[u8]) -> Result<Option<Step>, AllocError>
+    ensures { IfOk result (λ step. option_map call_of step ≡ page_into bytes rest.now) }
+{
+    let (minute, name) = split_blank(rest);
+    let Some(minute) = number_up_to(u64::from(u32::MAX), minute) else {
+        return Ok(None);
+    };
+    let minute = minute as u32;
+    let name = bytes_of(alloc, name.unwrap_or(&[]))?;
+    Ok(name.map(|name| Step::Page {
+        bytes,
+        minute,
+        name,
+    }))
+}
+
+// The call that a number of bytes, a minute and a local name, behind the word `page`, ask for.
+fn page_in(alloc: Global, rest: &[u8]) -> Result<Option<Step>, AllocError>
+    ensures { IfOk result (λ step. option_map call_of step ≡ page_in rest.now) }
+{
+    let (bytes, rest) = split_blank(rest);
+    match (number_up_to(u64::MAX, bytes), rest) {
+        (Some(bytes), Some(rest)) => page_into(alloc, bytes as usize, rest),
+        _ => Ok(None),
+    }
+}
+
+// The call that a word and what follows it ask for, of those that are told something of a board.
+fn board_step_in(
+    alloc: Global,
+    word: &str,
+    rest: Option<&[u8]>,
+) -> Result<Option<Step>, AllocError>
+    ensures { IfOk result (λ step. option_map call_of step
+        ≡ board_call_in word.now (option_map (λ text. text.now) rest.entry)) }
+{
+    match (word, rest) {
+        ("turn", Some(rest)) => turn_in(alloc, rest),
+        ("page", Some(rest)) => page_in(alloc, rest),
+        ("tell", Some(place)) => {
+            let place = number_up_to(u64::MAX, place);
+            Ok(place.map(|place| Step::Tell(place as usize)))
+        }
+        _ => Ok(None),
+    }
+}
+
 // The call that a word and what follows it ask for, if they ask for one.
 fn step_in(alloc: Global, word: &str, rest: Option<&[u8]>) -> Result<Option<Step>, AllocError>
     ensures { IfOk result (λ step. option_map call_of step
@@ -60,12 +108,8 @@ fn step_in(alloc: Global, word: &str, rest: Option<&[u8]>) -> Result<Option<Step
         ("row", _) => bytes_of(alloc, rest.unwrap_or(&[]))?.map(Step::Row),
         ("confirm", None) => Some(Step::Confirm),
         ("abandon", None) => Some(Step::Abandon),
-        ("turn", Some(rest)) => turn_in(alloc, rest)?,
-        ("tell", Some(place)) => number_up_to(u64::MAX, place).map(|place| Step::Tell(
-            place as usize,
-        )),
         ("tally", None) => Some(Step::Tally),
-        _ => None,
+        _ => board_step_in(alloc, word, rest)?,
     };
     Ok(step)
 }

@@ -19,6 +19,13 @@ pub enum Step {
     /// Turn the board to a day, by its number, and a station, by the bytes of its TIPLOC; either
     /// may be none that there is.
     Turn(u32, Vec<u8>),
+    /// Write the page of the board into so many bytes of the memory, with a local name, from a minute
+    /// on.
+    Page {
+        bytes: usize,
+        minute: u32,
+        name: Vec<u8>,
+    },
     /// Tell the line at a place counted from 0.
     Tell(usize),
     /// Tell the tally.
@@ -36,6 +43,7 @@ impl Step {
             Step::Confirm => "confirm",
             Step::Abandon => "abandon",
             Step::Turn(_, _) => "turn",
+            Step::Page { .. } => "page",
             Step::Tell(_) => "tell",
             Step::Tally => "tally",
         }
@@ -51,6 +59,15 @@ impl Step {
             Step::Confirm => Call::Confirm,
             Step::Abandon => Call::Abandon,
             Step::Turn(day, station) => Call::Turn(station.as_slice(), *day),
+            Step::Page {
+                bytes,
+                minute,
+                name,
+            } => Call::Page {
+                bytes: *bytes,
+                name: name.as_slice(),
+                minute: *minute,
+            },
             Step::Tell(place) => Call::Tell(*place),
             Step::Tally => Call::Tally,
         }
