@@ -24,7 +24,7 @@ front (b ∷ text) = elim (cases_Bool (is_blank b)) [
   | inr t ↦ rw t (record { before = []; are = refl; blank = refl; ends = λ h. t })
 ]
 
-all_reversed : (xs : List ℕ) → list_all is_blank xs ≡ true → list_all is_blank (reverse xs) ≡ true
+pub all_reversed : (xs : List ℕ) → list_all is_blank xs ≡ true → list_all is_blank (reverse xs) ≡ true
 all_reversed [] h = refl
 all_reversed (b ∷ xs) h =
     let parts = and_parts (is_blank b) (list_all is_blank xs) h in

@@ -3,3 +3,4 @@ pub mod Blanks
 pub mod Shown
 pub mod PageRows
 pub mod Laid
+pub mod Ones

@@ -67,3 +67,9 @@ abbrev pub HeadingFrom : List ℕ → List ℕ → List ℕ → Type 0
 HeadingFrom name tiploc heading =
     (TrimmedFrom name heading × (list_all is_blank name ≡ false))
     ⊎ (TrimmedFrom tiploc heading × (list_all is_blank name ≡ true))
+
+-- those rules leave no choice of a page, of the lines that it shows, or of its heading
+pub record PageIsOne : Type 0 where
+  pub page : (heading : List ℕ) (lines : List Line) (xs ys : List ℕ) → LaidOut heading lines xs → LaidOut heading lines ys → xs ≡ ys
+  pub shown : (minute : ℕ) (lines xs ys : List Line) → ShownFrom minute lines xs → ShownFrom minute lines ys → xs ≡ ys
+  pub heading : (name tiploc xs ys : List ℕ) → HeadingFrom name tiploc xs → HeadingFrom name tiploc ys → xs ≡ ys

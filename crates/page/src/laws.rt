@@ -1,7 +1,13 @@
 // Laws of pages.
-ghost use Rattle.page.specs.Laws.{PageIsLaidOut};
+ghost use Rattle.page.specs.Laws.{PageIsLaidOut, PageIsOne};
 
 /// Each byte of the page of a heading and lines is the byte of a field in its columns, or a blank.
 pub fn page_is_laid_out()
     ensures { PageIsLaidOut }
+{}
+
+/// What stands where on a page, which lines it shows and what its heading is leave no choice: pages,
+/// lines and headings that keep to the same rules are the same.
+pub fn page_is_one()
+    ensures { PageIsOne }
 {}
