@@ -1,8 +1,9 @@
 -- Worked cases of pages.
-use Rattle.std.specs.Prelude.{◌≡◌, codes}
+use Rattle.std.specs.Prelude.{◌≡◌, [], ◌∷◌, ◌++◌, None, codes, replicate}
 use Rattle.board.specs.declared.line.Line.{Line}
 use Rattle.page.specs.Headings.{heading_of}
 use Rattle.page.specs.Rows.{row_of, line_fields}
+use Rattle.page.specs.Pages.{first_ten, page_for}
 
 -- the line of 09:05 to HALTA, platform 4, operator ZZ, identity 1A23
 abbrev pub example_line : Line
@@ -22,3 +23,7 @@ pub record Worked : Type 0 where
   pub blank_name : heading_of (codes "   ") (codes "HALTA  ") ≡ codes "HALTA"
   pub no_name : heading_of (codes "") (codes "HALTA  ") ≡ codes "HALTA"
   pub no_station : heading_of (codes " ") (codes "       ") ≡ codes ""
+  pub at_its_minute : first_ten 545 (example_line ∷ []) ≡ example_line ∷ []
+  pub past_its_minute : first_ten 546 (example_line ∷ []) ≡ []
+  pub ten : first_ten 0 (replicate 12 example_line) ≡ replicate 10 example_line
+  pub page : page_for None (example_line ∷ []) (codes "Halta Road") 545 ≡ codes "Halta Road              0905 HALTA   4   ZZ 1A23" ++ replicate 216 32
