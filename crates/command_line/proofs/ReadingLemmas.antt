@@ -16,7 +16,7 @@ use Rattle.command_line.specs.declared.refusal.NoTask.TheVariants.{Shown, Wrong,
 use Rattle.tasks.specs.declared.task.Task.{Task}
 use Rattle.command_line.specs.Commands.{departures}
 use Rattle.command_line.specs.Requests.{Request, request_in, request_of, request_of_used}
-use Rattle.command_line.specs.Refusals.{SaysKind, SaysNoStore, SaysOne, faults_in}
+use Rattle.command_line.specs.Refusals.{SaysKind, SaysNoValue, SaysOne, faults_in}
 
 -- the command line is one of which `clap` gives the matches and the faults
 pub departures_is_simple : is_simple departures ≡ true
@@ -32,31 +32,31 @@ pub among_first : (kind : ErrorKind) (first second : Kinds) → IsAmong kind fir
 among_first kind [] second among = absurd among
 among_first kind (k ∷ ks) second among = among
 
--- where `clap` finds no fault, the faults are those of the store
-faults_of_store : (words : List Text) → fault_of departures words ≡ []
+-- where `clap` finds no fault, the faults are those of the store and the time
+faults_of_values : (words : List Text) → fault_of departures words ≡ []
     → faults_in words ≡ (if is_some (request_in words) then [] else kind.InvalidValue ∷ [])
-faults_of_store words none = ap (λ (first : Kinds). or_else first (if is_some (request_in words) then [] else kind.InvalidValue ∷ [])) none
+faults_of_values words none = ap (λ (first : Kinds). or_else first (if is_some (request_in words) then [] else kind.InvalidValue ∷ [])) none
 
 -- a task that the matches ask for is asked for by the words
 pub matched_asks : (words : List Text) (request : Option Request) (r : Result Task NoTask) → request ≡ request_in words
-    → MatchResult r (λ task. request ≡ Some (request_of task)) (SaysNoStore request)
+    → MatchResult r (λ task. request ≡ Some (request_of task)) (SaysNoValue request)
     → IfOk r (λ task. request_in words ≡ Some (request_of task))
 matched_asks words request (Ok task) same asked = sym same ∙ asked
 matched_asks words request (Err said) same says = tt
 
--- a task that the matches ask for is asked for without a fault, and where they ask for none it is for the store
+-- a task that the matches ask for is asked for without a fault, and where they ask for none it is for the store or the time
 pub matched_faults : (words : List Text) (request : Option Request) (r : Result Task NoTask) → fault_of departures words ≡ []
-    → request ≡ request_in words → MatchResult r (λ task. request ≡ Some (request_of task)) (SaysNoStore request)
+    → request ≡ request_in words → MatchResult r (λ task. request ≡ Some (request_of task)) (SaysNoValue request)
     → MatchResult r (λ _. faults_in words ≡ []) (SaysOne (faults_in words))
 matched_faults words request (Ok task) none same asked =
-    faults_of_store words none ∙ ap (λ (o : Option Request). if is_some o then [] else kind.InvalidValue ∷ []) (sym same ∙ asked)
+    faults_of_values words none ∙ ap (λ (o : Option Request). if is_some o then [] else kind.InvalidValue ∷ []) (sym same ∙ asked)
 matched_faults words request (Err OutOfMemory) none same said = tt
 matched_faults words request (Err (Shown text)) none same said =
-    let is : faults_in words ≡ kind.InvalidValue ∷ [] = faults_of_store words none
+    let is : faults_in words ≡ kind.InvalidValue ∷ [] = faults_of_values words none
     ∙ ap (λ (o : Option Request). if is_some o then [] else kind.InvalidValue ∷ []) (sym same ∙ said.0) in
     (kind.InvalidValue, subst (λ (ks : Kinds). IsAmong kind.InvalidValue ks) (sym is) (inl refl), said.1)
 matched_faults words request (Err (Wrong text)) none same said =
-    let is : faults_in words ≡ kind.InvalidValue ∷ [] = faults_of_store words none
+    let is : faults_in words ≡ kind.InvalidValue ∷ [] = faults_of_values words none
     ∙ ap (λ (o : Option Request). if is_some o then [] else kind.InvalidValue ∷ []) (sym same ∙ said.0) in
     (kind.InvalidValue, subst (λ (ks : Kinds). IsAmong kind.InvalidValue ks) (sym is) (inl refl), said.1)
 

@@ -28,6 +28,15 @@ capacity_rule = record (option_rule (codes "capacity")) {
 abbrev pub base_rule : Rule
 base_rule = option_rule (codes "base")
 
+abbrev pub name_rule : Rule
+name_rule = option_rule (codes "name")
+
+abbrev pub at_rule : Rule
+at_rule = record (option_rule (codes "at")) { defaults = codes "00:00" ∷ [] }
+
+abbrev pub svg_rule : Rule
+svg_rule = option_rule (codes "svg")
+
 abbrev pub count_rule : Rule
 count_rule = record (required_rule (codes "count")) {
   parser = Some (Unsigned 0 18446744073709551615);
@@ -60,6 +69,10 @@ with_board a = with_rule (with_rule (with_rule a station_rule) date_rule) files_
 abbrev pub run_command : App
 run_command = with_board (over_store (codes "run"))
 
+abbrev pub glass_command : App
+glass_command =
+    with_board (with_rule (with_rule (with_rule (over_store (codes "glass")) name_rule) at_rule) svg_rule)
+
 abbrev pub replay_command : App
 replay_command = over_files (codes "replay")
 
@@ -74,6 +87,9 @@ board_command = with_board (over_store (codes "board"))
 
 abbrev pub turns_command : App
 turns_command = with_board (with_rule (over_store (codes "turns")) count_rule)
+
+abbrev pub pages_command : App
+pages_command = with_board (with_rule (over_store (codes "pages")) count_rule)
 
 abbrev pub extract_command : App
 extract_command = with_board (with_rule (over_store (codes "extract")) base_rule)
@@ -96,9 +112,9 @@ with_task a task = with_subcommand a task.top
 -- the program, of which one task is asked
 abbrev pub departures : App
 departures =
-    with_task (with_task (with_task (with_task (with_task (with_task (with_task program
-    run_command) replay_command) rows_command) stores_command) board_command) turns_command)
-    extract_command
+    with_task (with_task (with_task (with_task (with_task (with_task (with_task (with_task
+    (with_task program run_command) glass_command) replay_command) rows_command) stores_command)
+    board_command) turns_command) pages_command) extract_command
 
 -- none of the command's arguments is global
 abbrev pub IsLocal : Command → Type 0

@@ -13,7 +13,7 @@ use Rattle.command_line.specs.Commands.{departures}
 use Rattle.command_line.specs.Requests.{Request, request_in}
 
 -- the kinds of fault that the words of one task have, none where they ask for a task: what `clap`
--- refuses, and a word that names no store
+-- refuses, and a word that names no store or, for a page, no time
 abbrev pub faults_in : List Text → Kinds
 faults_in words = or_else (fault_of departures words)
     (if is_some (request_in words) then [] else InvalidValue ∷ [])
@@ -35,7 +35,7 @@ abbrev pub SaysOne : Kinds → NoTask → Type 0
 SaysOne kinds OutOfMemory = ⊤
 SaysOne kinds said = (kind : ErrorKind) × IsAmong kind kinds × SaysKind kind said
 
--- a store is not named where no task is asked for, or no memory is left
-abbrev pub SaysNoStore : Option Request → NoTask → Type 0
-SaysNoStore request OutOfMemory = ⊤
-SaysNoStore request said = (request ≡ None) × SaysKind InvalidValue said
+-- a store or a time is not named where no task is asked for, or no memory is left
+abbrev pub SaysNoValue : Option Request → NoTask → Type 0
+SaysNoValue request OutOfMemory = ⊤
+SaysNoValue request said = (request ≡ None) × SaysKind InvalidValue said

@@ -1,6 +1,6 @@
 -- What the words of the command line ask for.
 use Rattle.std.specs.Prelude.{ℕ, List, [], ◌∷◌, codes, cond, if◌then◌else◌}
-use Rattle.std.specs.Prelude.{Option, Some, None, option_map, option_and_then}
+use Rattle.std.specs.Prelude.{Option, Some, None, option_map, option_and_then, unwrap_or}
 use Rattle.std.specs.Str.{bytes_eq}
 use Rattle.std.specs.Str.Parse.{digits_value, without_leading_plus}
 use Rattle.clap.specs.ValueTests.{is_unsigned_in}
@@ -8,11 +8,13 @@ use Rattle.clap.specs.Walk.{Row, Text, all_of, first_of, texts}
 use Rattle.clap.specs.Simple.{subcommand_of}
 use Rattle.tasks.specs.declared.store.StoreKind.{StoreKind}
 use Rattle.tasks.specs.declared.task.Wanted.{Wanted}
+use Rattle.tasks.specs.declared.task.WantedPage.{WantedPage}
 use Rattle.tasks.specs.declared.task.Work.{Work}
 use Rattle.tasks.specs.declared.task.Work.TheVariants as work
 use Rattle.tasks.specs.declared.task.Task.{Task}
 use Rattle.tasks.specs.declared.task.Task.TheVariants as task
 use Rattle.command_line.specs.Commands.{departures}
+use Rattle.tasks.specs.Clocks.{clock_in}
 use Rattle.tasks.specs.Stores.{store_named}
 
 -- ---- requests
@@ -24,14 +26,24 @@ pub record BoardRequest : Type 0 where
   pub station : Text
   pub date : Text
 
+-- a page of a board: its local name, the minute from which on it shows departures, the word for
+-- that minute, and the file of its picture
+pub record PageRequest : Type 0 where
+  pub name : Text
+  pub minute : ℕ
+  pub at : Text
+  pub svg : Option Text
+
 -- a task, with its files
 pub data Request : Type 0 where
   rows : List Text → Request
   replay : List Text → Request
   stores : ℕ → List Text → Request
   run : BoardRequest → List Text → Request
+  glass : PageRequest → BoardRequest → List Text → Request
   board : BoardRequest → List Text → Request
   turns : ℕ → BoardRequest → List Text → Request
+  pages : ℕ → BoardRequest → List Text → Request
   extract : Option Text → BoardRequest → List Text → Request
 
 abbrev pub board_request_of : Wanted → BoardRequest
@@ -42,12 +54,23 @@ board_request_of wanted = record {
   date = wanted.date.now;
 }
 
+abbrev pub page_request_of : WantedPage → PageRequest
+page_request_of wanted = record {
+  name = wanted.name.now;
+  minute = wanted.minute;
+  at = wanted.at.now;
+  svg = option_map (λ name. name.now) wanted.svg;
+}
+
 abbrev pub work_request_of : BoardRequest → Work → Request
 work_request_of wanted (work.Board files) = board wanted (texts files.items)
 work_request_of wanted (work.Turns times files) = turns times wanted (texts files.items)
+work_request_of wanted (work.Pages times files) = pages times wanted (texts files.items)
 work_request_of wanted (work.Extracts base files) =
     extract (option_map (λ name. name.now) base) wanted (texts files.items)
 work_request_of wanted (work.Run files) = run wanted (texts files.items)
+work_request_of wanted (work.Glass page files) =
+    glass (page_request_of page) wanted (texts files.items)
 
 -- what a task is asked
 abbrev pub request_of : Task → Request
@@ -96,16 +119,37 @@ board_in given =
     (slots_in given))
     (store_in given)
 
+abbrev pub page_with : Text → ℕ → Text → Option Text → PageRequest
+page_with name minute at svg = record {
+  name = name;
+  minute = minute;
+  at = at;
+  svg = svg;
+}
+
+-- the name has no byte where it is not given
+abbrev pub page_in : List Row → Option PageRequest
+page_in given =
+    option_and_then (λ at.
+    option_map (λ minute. page_with (unwrap_or (first_of (codes "name") given) []) minute at
+    (first_of (codes "svg") given))
+    (clock_in at))
+    (first_of (codes "at") given)
+
 -- a task over one store
 abbrev pub request_over : Text → List Row → BoardRequest → List Text → Option Request
 request_over name given wanted files =
     cond (bytes_eq name (codes "board")) (Some (board wanted files))
     (cond (bytes_eq name (codes "turns"))
     (option_map (λ times. turns times wanted files) (count_in given))
+    (cond (bytes_eq name (codes "pages"))
+    (option_map (λ times. pages times wanted files) (count_in given))
     (cond (bytes_eq name (codes "extract"))
     (Some (extract (first_of (codes "base") given) wanted files))
     (cond (bytes_eq name (codes "run")) (Some (run wanted files))
-    None)))
+    (cond (bytes_eq name (codes "glass"))
+    (option_map (λ page. glass page wanted files) (page_in given))
+    None)))))
 
 -- a task with its files
 abbrev pub request_with : Text → List Row → List Text → Option Request

@@ -2,11 +2,12 @@
 ghost use Rattle.std.specs.Prelude.{◌≡◌, false, codes, IfOk};
 ghost use Rattle.clap.specs.Simple.{App};
 ghost use Rattle.clap.specs.Words.{app_of, rule_of};
-ghost use Rattle.command_line.specs.Commands.{IsCommand, base_rule, capacity_rule, count_rule};
-ghost use Rattle.command_line.specs.Commands.{files_rule, required_rule, store_rule, over_files, over_store};
-ghost use Rattle.command_line.specs.Commands.{run_command, replay_command, rows_command, stores_command};
-ghost use Rattle.command_line.specs.Commands.{board_command, turns_command, extract_command};
-ghost use Rattle.command_line.specs.Commands.{IsLocal, departures, program, with_board, with_task};
+ghost use Rattle.command_line.specs.Commands.{IsCommand, at_rule, base_rule, capacity_rule, count_rule};
+ghost use Rattle.command_line.specs.Commands.{files_rule, name_rule, required_rule, store_rule, svg_rule};
+ghost use Rattle.command_line.specs.Commands.{run_command, glass_command, replay_command, rows_command};
+ghost use Rattle.command_line.specs.Commands.{stores_command, board_command, turns_command, pages_command};
+ghost use Rattle.command_line.specs.Commands.{extract_command, over_files, over_store, with_board};
+ghost use Rattle.command_line.specs.Commands.{IsLocal, departures, program, with_task};
 
 use clap::builder::ValueParser;
 use clap::{Arg, Command};
@@ -47,6 +48,40 @@ fn base_option<'a>(alloc: Global) -> Arg<'a>
     )
 }
 
+// The local name of a page.
+fn name_option<'a>(alloc: Global) -> Arg<'a>
+    ensures rule { rule_of result ≡ name_rule }
+    ensures local { result.global ≡ false }
+{
+    Arg::new(alloc, "name")
+        .long("name")
+        .value_name("NAME")
+        .help("The local name that heads the page")
+}
+
+// The time of a page.
+fn at_option<'a>(alloc: Global) -> Arg<'a>
+    ensures rule { rule_of result ≡ at_rule }
+    ensures local { result.global ≡ false }
+{
+    Arg::new(alloc, "at")
+        .long("at")
+        .value_name("HH:MM")
+        .default_value("00:00")
+        .help("The time from which on the page shows departures")
+}
+
+// The file of a page's picture.
+fn svg_option<'a>(alloc: Global) -> Arg<'a>
+    ensures rule { rule_of result ≡ svg_rule }
+    ensures local { result.global ≡ false }
+{
+    Arg::new(alloc, "svg")
+        .long("svg")
+        .value_name("FILE")
+        .help("A file that the page is written to, as a picture")
+}
+
 // An argument with one value, which has to be given.
 fn required_argument<'a>(alloc: Global, id: &'a str, value_name: &'a str, help: &'a str) -> Arg<'a>
     ensures rule { rule_of result ≡ required_rule id.entry.now }
@@ -58,18 +93,15 @@ fn required_argument<'a>(alloc: Global, id: &'a str, value_name: &'a str, help: 
         .help(help)
 }
 
-// How many times a board is turned.
-fn count_argument<'a>(alloc: Global) -> Arg<'a>
+// How many times something is done.
+fn count_argument<'a>(alloc: Global, help: &'a str) -> Arg<'a>
     ensures rule { rule_of result ≡ count_rule }
     ensures local { result.global ≡ false }
 {
-    required_argument(
-        alloc,
-        "count",
-        "COUNT",
-        "How many times the board is turned",
-    )
-    .value_parser(ValueParser::unsigned(0, u64::MAX))
+    required_argument(alloc, "count", "COUNT", help).value_parser(ValueParser::unsigned(
+        0,
+        u64::MAX,
+    ))
 }
 
 // The files of a task, one at least.
@@ -134,6 +166,22 @@ fn run_command<'a>(alloc: Global) -> Result<Command<'a>, AllocError>
         "Example:\n  departures run HALTA 240304 week.cif update.cif",
     )?;
     with_board(alloc, run)
+}
+
+fn glass_command<'a>(alloc: Global) -> Result<Command<'a>, AllocError>
+    ensures { IfOk result (λ c. IsCommand c glass_command) }
+{
+    let glass = over_store(
+        alloc,
+        "glass",
+        "Take extracts in order, confirm each, and print the page of the board",
+        "Example:\n  departures glass --name 'Halta Road' --at 09:00 HALTA 240304 week.cif",
+    )?;
+    let glass = glass
+        .arg(name_option(alloc))?
+        .arg(at_option(alloc))?
+        .arg(svg_option(alloc))?;
+    with_board(alloc, glass)
 }
 
 // A task over files alone.
@@ -209,7 +257,21 @@ fn turns_command<'a>(alloc: Global) -> Result<Command<'a>, AllocError>
         "Turn a board many times, for measuring",
         "Example:\n  departures turns 1000 HALTA 240304 week.cif",
     )?;
-    with_board(alloc, turns.arg(count_argument(alloc))?)
+    let count = count_argument(alloc, "How many times the board is turned");
+    with_board(alloc, turns.arg(count)?)
+}
+
+fn pages_command<'a>(alloc: Global) -> Result<Command<'a>, AllocError>
+    ensures { IfOk result (λ c. IsCommand c pages_command) }
+{
+    let pages = over_store(
+        alloc,
+        "pages",
+        "Write the page of a board many times, for measuring",
+        "Example:\n  departures pages 1000 HALTA 240304 week.cif",
+    )?;
+    let count = count_argument(alloc, "How many times the page is written");
+    with_board(alloc, pages.arg(count)?)
 }
 
 fn extract_command<'a>(alloc: Global) -> Result<Command<'a>, AllocError>
@@ -266,10 +328,12 @@ pub(crate) fn departures<'a>(alloc: Global) -> Result<Command<'a>, AllocError>
     ensures { IfOk result (λ c. IsCommand c departures) }
 {
     let command = with_task(program(alloc), run_command(alloc));
+    let command = with_task(command, glass_command(alloc));
     let command = with_task(command, replay_command(alloc));
     let command = with_task(command, rows_command(alloc));
     let command = with_task(command, stores_command(alloc));
     let command = with_task(command, board_command(alloc));
     let command = with_task(command, turns_command(alloc));
+    let command = with_task(command, pages_command(alloc));
     with_task(command, extract_command(alloc))
 }

@@ -2,13 +2,14 @@
 ghost use Rattle.std.specs.Prelude.{◌≡◌, IfOk, option_map};
 ghost use Rattle.clap.specs.Walk.{first_of, rows_of, texts};
 ghost use Rattle.clap.specs.Matches.{found_of};
-ghost use Rattle.command_line.specs.Requests.{board_request_of, request_of, number_up_to};
-ghost use Rattle.command_line.specs.Requests.{slots_in, store_in, count_in, files_in, board_in};
+ghost use Rattle.command_line.specs.Requests.{board_request_of, page_request_of, request_of};
+ghost use Rattle.command_line.specs.Requests.{number_up_to, slots_in, store_in, count_in, files_in};
+ghost use Rattle.command_line.specs.Requests.{board_in, page_in};
 ghost use Rattle.command_line.specs.Requests.{request_over, request_with, request_by};
 
 use clap::ArgMatches;
 use std::alloc::{AllocError, Global};
-use tasks::{StoreKind, Task, Wanted, Work};
+use tasks::{StoreKind, Task, Wanted, WantedPage, Work, clock};
 
 // How many slots a store may have.
 const MOST_SLOTS: u64 = 65_536;
@@ -46,7 +47,7 @@ fn store_in(matches: &ArgMatches<'_>) -> Option<StoreKind>
     StoreKind::named(word_in(matches, "store")?)
 }
 
-// How many times matches ask that a board be turned.
+// How many times matches ask that a board be turned or its page be written.
 fn count_in(matches: &ArgMatches<'_>) -> Option<u64>
     ensures { result ≡ count_in (rows_of (found_of matches.now)) }
 {
@@ -76,6 +77,19 @@ fn board_in<'a>(matches: &ArgMatches<'a>) -> Option<Wanted<'a>>
     })
 }
 
+// The page of a board that matches ask for.
+fn page_in<'a>(matches: &ArgMatches<'a>) -> Option<WantedPage<'a>>
+    ensures { option_map page_request_of result ≡ page_in (rows_of (found_of matches.now)) }
+{
+    let at = word_in(matches, "at")?;
+    Some(WantedPage {
+        name: word_in(matches, "name").unwrap_or(""),
+        minute: clock(at)?,
+        at,
+        svg: word_in(matches, "svg"),
+    })
+}
+
 // The task over one store that its name, its matches, a board and files ask for.
 fn task_over<'a>(
     name: &str,
@@ -90,8 +104,10 @@ fn task_over<'a>(
     let work = match name {
         "board" => Work::Board(files),
         "turns" => Work::Turns(count_in(matches)?, files),
+        "pages" => Work::Pages(count_in(matches)?, files),
         "extract" => Work::Extracts(word_in(matches, "base"), files),
         "run" => Work::Run(files),
+        "glass" => Work::Glass(page_in(matches)?, files),
         _ => return None,
     };
     Some(Task::OverStore(wanted, work))

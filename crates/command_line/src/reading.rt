@@ -3,29 +3,41 @@ ghost use Rattle.std.specs.Prelude.{◌≡◌, ◌<◌, [], ◌∷◌, Some, map
 ghost use Rattle.std.specs.Prelude.{position, IfOk, IfSome, MatchResult, option_map};
 ghost use Rattle.std.specs.Str.{bytes_eq};
 ghost use Rattle.clap.specs.Simple.{subcommand_rows_of};
+ghost use Rattle.clap.specs.declared.error.kind.ErrorKind.TheVariants.{InvalidValue};
 ghost use Rattle.command_line.specs.Requests.{request_of, request_of_used, request_in};
 ghost use Rattle.command_line.specs.Requests.{parts, parts_left};
-ghost use Rattle.command_line.specs.Refusals.{faults_in, first_faults, SaysNoStore, SaysOne};
+ghost use Rattle.command_line.specs.Refusals.{faults_in, first_faults, SaysKind, SaysNoValue, SaysOne};
 
 use crate::command::departures;
 use crate::matches::task_by;
-use crate::refusal::{NoTask, no_store, refused};
+use crate::refusal::{NoTask, no_clock, no_store, refused};
 use clap::ArgMatches;
 use std::alloc::Global;
-use tasks::Task;
+use tasks::{StoreKind, Task};
+
+// What is said where the values of options ask for no task: the store is looked at first.
+fn no_task(alloc: Global, matches: &ArgMatches<'_>) -> NoTask
+    ensures { SaysKind InvalidValue result }
+{
+    let store = matches.get_str("store").unwrap_or("");
+    match StoreKind::named(store) {
+        Some(_) => no_clock(alloc, matches.get_str("at").unwrap_or("")),
+        None => no_store(alloc, store),
+    }
+}
 
 // The task that matches ask for.
 fn matched<'a>(alloc: Global, matches: &ArgMatches<'a>) -> Result<Task<'a>, NoTask>
     ensures { MatchResult result
         (λ task. request_of_used (subcommand_rows_of matches.now) ≡ Some (request_of task))
-        (SaysNoStore (request_of_used (subcommand_rows_of matches.now))) }
+        (SaysNoValue (request_of_used (subcommand_rows_of matches.now))) }
 {
     let Some((name, own)) = matches.subcommand() else {
         return Err(no_store(alloc, ""));
     };
     match task_by(alloc, name, own)? {
         Some(task) => Ok(task),
-        None => Err(no_store(alloc, own.get_str("store").unwrap_or(""))),
+        None => Err(no_task(alloc, own)),
     }
 }
 

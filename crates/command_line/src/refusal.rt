@@ -81,15 +81,34 @@ pub(crate) fn refused(alloc: Global, error: &Error) -> NoTask
     }
 }
 
-// What is said for a word that names no store.
-pub(crate) fn no_store(alloc: Global, word: &str) -> NoTask
+// What is said for a word that is no value of an option.
+fn no_value(alloc: Global, word: &str, option: &str, possible: &str) -> NoTask
     ensures { SaysKind InvalidValue result }
 {
     let text = format!(in alloc;
-        "error: invalid value '{word}' for '--store <STORE>'\n  [possible values: table, bag]\n\n{SEE_HELP}\n"
+        "error: invalid value '{word}' for '{option}'\n  [possible values: {possible}]\n\n{SEE_HELP}\n"
     );
     match text {
         Ok(text) => NoTask::Wrong(text),
         Err(_) => NoTask::OutOfMemory,
     }
+}
+
+// What is said for a word that names no store.
+pub(crate) fn no_store(alloc: Global, word: &str) -> NoTask
+    ensures { SaysKind InvalidValue result }
+{
+    no_value(alloc, word, "--store <STORE>", "table, bag")
+}
+
+// What is said for a word that names no time.
+pub(crate) fn no_clock(alloc: Global, word: &str) -> NoTask
+    ensures { SaysKind InvalidValue result }
+{
+    no_value(
+        alloc,
+        word,
+        "--at <HH:MM>",
+        "two digits, a colon and two digits, as 09:05",
+    )
 }

@@ -1,8 +1,10 @@
-//! The tasks of the program, and the words for the two stores.
+//! The tasks of the program, and the words for the two stores and for a time.
 #![tactic(auto)]
 
+mod clocks;
 mod store;
 mod task;
 
+pub use clocks::clock;
 pub use store::StoreKind;
-pub use task::{Task, Wanted, Work};
+pub use task::{Task, Wanted, WantedPage, Work};

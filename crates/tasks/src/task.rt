@@ -28,6 +28,19 @@ impl<'a> Wanted<'a> {
     }
 }
 
+/// The page of a board that is asked for.
+#[derive(Clone, Copy)]
+pub struct WantedPage<'a> {
+    /// The local name that heads it, of no byte where none is given.
+    pub name: &'a str,
+    /// The minute from which on it shows departures, 60 × HH + MM of its word, at most 6,039.
+    pub minute: u32,
+    /// The word for that minute, as HH:MM.
+    pub at: &'a str,
+    /// The name of the file that it is written to as a picture, if one is given.
+    pub svg: Option<&'a str>,
+}
+
 /// What is done over one store, with the names of the files.
 #[derive(Drop)]
 pub enum Work<'a> {
@@ -35,11 +48,16 @@ pub enum Work<'a> {
     Board(Vec<&'a str>),
     /// The same, and the board is turned so many times.
     Turns(u64, Vec<&'a str>),
+    /// The schedules of the files are put into it, and the page of a board is written so many
+    /// times.
+    Pages(u64, Vec<&'a str>),
     /// The schedules of the base are put into it, if one is named, and the extracts of the files
     /// are taken and abandoned.
     Extracts(Option<&'a str>, Vec<&'a str>),
     /// The extracts of the files are taken and confirmed, and a board is printed.
     Run(Vec<&'a str>),
+    /// The extracts of the files are taken and confirmed, and the page of a board is printed.
+    Glass(WantedPage<'a>, Vec<&'a str>),
 }
 
 /// A task with the names of its files.
