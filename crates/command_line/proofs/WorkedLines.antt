@@ -5,11 +5,31 @@ use Rattle.command_line.specs.Worked.{Faults, Options, Tasks, Worked}
 
 pub tasks : Tasks
 unfolding clap_on_literals
-tasks = record { rows = refl; replay = refl; stores = refl; run = refl; board = refl; turns = refl; extract = refl }
+tasks = record {
+  rows = refl;
+  replay = refl;
+  stores = refl;
+  run = refl;
+  glass = refl;
+  board = refl;
+  turns = refl;
+  pages = refl;
+  extract = refl;
+}
 
 pub options : Options
 unfolding clap_on_literals
-options = record { stores = refl; run = refl; extract = refl }
+options = record {
+  stores = refl;
+  run = refl;
+  extract = refl;
+  picture = refl;
+  last_time = refl;
+  no_byte = refl;
+  no_byte_behind = refl;
+  hyphen = refl;
+  blank = refl;
+}
 
 pub faults : Faults
 unfolding clap_on_literals
@@ -18,6 +38,13 @@ faults = record {
   no_such_task = refl;
   missing = refl;
   no_such_store = refl;
+  one_digit_hour = refl;
+  no_colon = refl;
+  no_digit = refl;
+  no_time = refl;
+  more_digits = refl;
+  no_value = refl;
+  name_not_here = refl;
   too_many_slots = refl;
   repeated = refl;
   not_here = refl;

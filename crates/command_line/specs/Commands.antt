@@ -70,8 +70,8 @@ abbrev pub run_command : App
 run_command = with_board (over_store (codes "run"))
 
 abbrev pub glass_command : App
-glass_command =
-    with_board (with_rule (with_rule (with_rule (over_store (codes "glass")) name_rule) at_rule) svg_rule)
+glass_command = with_board (with_rule (with_rule (with_rule (over_store (codes "glass"))
+    name_rule) at_rule) svg_rule)
 
 abbrev pub replay_command : App
 replay_command = over_files (codes "replay")

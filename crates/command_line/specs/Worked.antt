@@ -3,8 +3,9 @@ use Rattle.std.specs.Prelude.{◌≡◌, ◌==◌, List, [], ◌∷◌, codes, c
 use Rattle.clap.specs.Walk.{Text}
 use Rattle.clap.specs.declared.error.kind.ErrorKind.TheVariants as kind
 use Rattle.tasks.specs.declared.store.StoreKind.TheVariants.{Table, Bag}
-use Rattle.command_line.specs.Requests.{BoardRequest, Request, board, board_with, extract, parts, replay}
-use Rattle.command_line.specs.Requests.{request_in, rows, run, stores, turns, with_first}
+use Rattle.command_line.specs.Requests.{BoardRequest, PageRequest, Request, board_with, page_with}
+use Rattle.command_line.specs.Requests.{board, extract, glass, pages, replay, rows, run, stores, turns}
+use Rattle.command_line.specs.Requests.{parts, request_in, with_first}
 use Rattle.command_line.specs.Refusals.{faults_in}
 
 -- the words of a line, with one blank between two
@@ -22,6 +23,10 @@ week = codes "week.cif" ∷ []
 abbrev pub usual_board : BoardRequest
 usual_board = board_with Table 2000 (codes "HALTA") (codes "240304")
 
+-- the page where no option is given
+abbrev pub usual_page : PageRequest
+usual_page = page_with [] 0 (codes "00:00") None
+
 -- each task
 pub record Tasks : Type 0 where
   pub rows : request_by_line (codes "rows week.cif update.cif")
@@ -29,9 +34,13 @@ pub record Tasks : Type 0 where
   pub replay : request_by_line (codes "replay week.cif") ≡ Some (replay week)
   pub stores : request_by_line (codes "stores week.cif") ≡ Some (stores 2000 week)
   pub run : request_by_line (codes "run HALTA 240304 week.cif") ≡ Some (run usual_board week)
+  pub glass : request_by_line (codes "glass HALTA 240304 week.cif")
+      ≡ Some (glass usual_page usual_board week)
   pub board : request_by_line (codes "board HALTA 240304 week.cif") ≡ Some (board usual_board week)
   pub turns : request_by_line (codes "turns 1000 HALTA 240304 week.cif")
       ≡ Some (turns 1000 usual_board week)
+  pub pages : request_by_line (codes "pages 1000 HALTA 240304 week.cif")
+      ≡ Some (pages 1000 usual_board week)
   pub extract : request_by_line (codes "extract HALTA 240304 week.cif")
       ≡ Some (extract None usual_board week)
 
@@ -43,6 +52,20 @@ pub record Options : Type 0 where
   pub extract :
       request_by_line (codes "extract --base=week.cif --store table HALTA 240304 week.cif")
       ≡ Some (extract (Some (codes "week.cif")) usual_board week)
+  pub picture :
+      request_by_line (codes "glass --name X --at 09:05 --svg f.svg HALTA 240304 week.cif")
+      ≡ Some (glass (page_with (codes "X") 545 (codes "09:05") (Some (codes "f.svg"))) usual_board week)
+  pub last_time : request_by_line (codes "glass HALTA --at=99:99 240304 week.cif")
+      ≡ Some (glass (page_with [] 6039 (codes "99:99") None) usual_board week)
+  pub no_byte : request_by_line (codes "glass --name= HALTA 240304 week.cif")
+      ≡ Some (glass usual_page usual_board week)
+  pub no_byte_behind : request_by_line (codes "glass --name  HALTA 240304 week.cif")
+      ≡ Some (glass usual_page usual_board week)
+  pub hyphen : request_by_line (codes "glass --name=-x HALTA 240304 week.cif")
+      ≡ Some (glass (page_with (codes "-x") 0 (codes "00:00") None) usual_board week)
+  pub blank : request_in (codes "glass" ∷ codes "--name" ∷ codes " Halta Road" ∷ codes "HALTA"
+      ∷ codes "240304" ∷ codes "week.cif" ∷ [])
+      ≡ Some (glass (page_with (codes " Halta Road") 0 (codes "00:00") None) usual_board week)
 
 -- wrong words, and those that ask for help or the version
 pub record Faults : Type 0 where
@@ -52,6 +75,20 @@ pub record Faults : Type 0 where
   pub missing : faults_in (words_of (codes "run HALTA 240304")) ≡ kind.MissingRequiredArgument ∷ []
   pub no_such_store : faults_in (words_of (codes "run --store shelf HALTA 240304 week.cif"))
       ≡ kind.InvalidValue ∷ []
+  pub one_digit_hour : faults_in (words_of (codes "glass --at 9:05 HALTA 240304 week.cif"))
+      ≡ kind.InvalidValue ∷ []
+  pub no_colon : faults_in (words_of (codes "glass --at 09.05 HALTA 240304 week.cif"))
+      ≡ kind.InvalidValue ∷ []
+  pub no_digit : faults_in (words_of (codes "glass --at=09:0x HALTA 240304 week.cif"))
+      ≡ kind.InvalidValue ∷ []
+  pub no_time : faults_in (words_of (codes "glass --at= HALTA 240304 week.cif"))
+      ≡ kind.InvalidValue ∷ []
+  pub more_digits : faults_in (words_of (codes "glass --at 09:050 HALTA 240304 week.cif"))
+      ≡ kind.InvalidValue ∷ []
+  pub no_value : faults_in (words_of (codes "glass --name -x HALTA 240304 week.cif"))
+      ≡ kind.UnknownArgument ∷ []
+  pub name_not_here : faults_in (words_of (codes "run --name X HALTA 240304 week.cif"))
+      ≡ kind.UnknownArgument ∷ []
   pub too_many_slots : faults_in (words_of (codes "stores --capacity 65537 week.cif"))
       ≡ kind.ValueValidation ∷ []
   pub repeated : faults_in (words_of (codes "stores --capacity 1 --capacity 1 week.cif"))

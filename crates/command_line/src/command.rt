@@ -2,12 +2,13 @@
 ghost use Rattle.std.specs.Prelude.{◌≡◌, false, codes, IfOk};
 ghost use Rattle.clap.specs.Simple.{App};
 ghost use Rattle.clap.specs.Words.{app_of, rule_of};
-ghost use Rattle.command_line.specs.Commands.{IsCommand, at_rule, base_rule, capacity_rule, count_rule};
-ghost use Rattle.command_line.specs.Commands.{files_rule, name_rule, required_rule, store_rule, svg_rule};
-ghost use Rattle.command_line.specs.Commands.{run_command, glass_command, replay_command, rows_command};
-ghost use Rattle.command_line.specs.Commands.{stores_command, board_command, turns_command, pages_command};
-ghost use Rattle.command_line.specs.Commands.{extract_command, over_files, over_store, with_board};
-ghost use Rattle.command_line.specs.Commands.{IsLocal, departures, program, with_task};
+ghost use Rattle.command_line.specs.Commands.{at_rule, base_rule, capacity_rule, count_rule};
+ghost use Rattle.command_line.specs.Commands.{files_rule, name_rule, required_rule, store_rule};
+ghost use Rattle.command_line.specs.Commands.{svg_rule, over_files, over_store, with_board};
+ghost use Rattle.command_line.specs.Commands.{run_command, glass_command, replay_command};
+ghost use Rattle.command_line.specs.Commands.{rows_command, stores_command, board_command};
+ghost use Rattle.command_line.specs.Commands.{turns_command, pages_command, extract_command};
+ghost use Rattle.command_line.specs.Commands.{IsCommand, IsLocal, departures, program, with_task};
 
 use clap::builder::ValueParser;
 use clap::{Arg, Command};

@@ -6,7 +6,8 @@ ghost use Rattle.clap.specs.Simple.{subcommand_rows_of};
 ghost use Rattle.clap.specs.declared.error.kind.ErrorKind.TheVariants.{InvalidValue};
 ghost use Rattle.command_line.specs.Requests.{request_of, request_of_used, request_in};
 ghost use Rattle.command_line.specs.Requests.{parts, parts_left};
-ghost use Rattle.command_line.specs.Refusals.{faults_in, first_faults, SaysKind, SaysNoValue, SaysOne};
+ghost use Rattle.command_line.specs.Refusals.{faults_in, first_faults};
+ghost use Rattle.command_line.specs.Refusals.{SaysKind, SaysNoValue, SaysOne};
 
 use crate::command::departures;
 use crate::matches::task_by;
