@@ -11,30 +11,15 @@ use std::io::{BufWriter, Write};
 use wording::rows::Words;
 use wording::words::FaultWords;
 
-const REFUSALS: [Refusal; 15] = [
-    Refusal::RowLength,
-    Refusal::BadByte,
-    Refusal::UnknownIdentity,
-    Refusal::OutOfPlace,
-    Refusal::BadForm,
-    Refusal::EndsBeforeStart,
-    Refusal::ReferenceMismatch,
-    Refusal::KeyPresent,
-    Refusal::KeyAbsent,
-    Refusal::TooManyCalls,
-    Refusal::TooManyVisits,
-    Refusal::TooManyRows,
-    Refusal::StoreFull,
-    Refusal::NoSuchBoard,
-    Refusal::TooFewSlots,
-];
+/// How many numbers are counted: those of the refusals, and 0, which none has.
+pub const COUNTED_NUMBERS: usize = Refusal::NUMBERS.len() + 1;
 
 /// How many rows or calls were done, and how many were refused with each number. A count that has
 /// come to 18,446,744,073,709,551,615 stays there.
 #[derive(Clone, Copy)]
 pub struct Counts {
     done: u64,
-    refused: [u64; 16],
+    refused: [u64; COUNTED_NUMBERS],
 }
 
 impl Counts {
@@ -49,7 +34,7 @@ impl Counts {
     {
         Counts {
             done: 0,
-            refused: [0; 16],
+            refused: [0; COUNTED_NUMBERS],
         }
     }
 
@@ -95,7 +80,7 @@ impl Counts {
     /// Adds other counts to them, each to its own.
     pub fn add(&mut self, other: &Counts)
         ensures done { done_count self.new ≡ counted (done_count self.old + done_count other.now) }
-        ensures refused { (number : ℕ) → number < 16
+        ensures refused { (number : ℕ) → number < COUNTED_NUMBERS
             → refused_count self.new number
             ≡ counted (refused_count self.old number + refused_count other.now number) }
     {
@@ -197,8 +182,7 @@ pub fn print_calls(rt: &HostRuntime, histories: u64, total: &Counts) -> anyhow::
 
 // Prints each number that was told, with how many times.
 fn print_refusals(rt: &HostRuntime, total: &Counts) -> anyhow::Result<()> {
-    for refusal in REFUSALS {
-        let number = refusal.number();
+    for (refusal, number) in Refusal::NUMBERS {
         let count = total.times(refusal);
         if count > 0 {
             println!(rt; "refused {number}: {count} times, {refusal}")?;

@@ -1,2 +1,3 @@
 mod Days
+mod Places
 mod Texts

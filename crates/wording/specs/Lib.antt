@@ -1,5 +1,6 @@
 pub mod Answers
 pub mod Changes
+pub mod Pages
 pub mod Rows
 pub mod Texts
 pub mod Words
