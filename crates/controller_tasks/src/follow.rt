@@ -12,8 +12,10 @@ use extract::stage::Stage;
 use files::Rows;
 use list_tasks::boards::{filled, print_lines, print_refused};
 use list_tasks::error::{TaskError, read_file};
+use controller::questions::page;
 use list_tasks::rows::Counts;
-use tasks::{StoreKind, Wanted};
+use page::page::PAGE_LENGTH;
+use tasks::{StoreKind, Wanted, WantedPage};
 use timetable::Store;
 
 /// A controller with the board that follows it, what came of the rows, and how many rows of the
@@ -40,7 +42,11 @@ impl<'a, 'b, S: Store + Drop> Followed<'a, 'b, S> {
     ghost use Rattle.std.specs.Bool.{OnFalse};
     ghost use Rattle.overlay.specs.Settling.{after_tries};
     ghost use Rattle.extract.specs.Progress.{idle};
-    ghost use Rattle.board.specs.Boards.{slots_of};
+    ghost use Rattle.cif.specs.Refusals.{fault_of};
+    ghost use Rattle.extract.specs.Judging.{Standing};
+    ghost use Rattle.board.specs.Boards.{shown_of, lines_of, slots_of};
+    ghost use Rattle.page.specs.Pages.{page_for};
+    ghost use Rattle.controller.specs.Calls.{Page as ToPage, refusal_of};
     ghost use Rattle.controller.specs.Shown.{store_of, progress_in};
     ghost use Rattle.list_tasks.specs.Counts.{counted};
     ghost use Rattle.controller_tasks.specs.Following.{controller_of, board_of, is_idle, is_complete, Follows, SameStoreAndBoard};
@@ -114,6 +120,20 @@ impl<'a, 'b, S: Store + Drop> Followed<'a, 'b, S> {
         self.print_shown(rt)?;
         println!(rt; "")?;
         print_lines(rt, &self.board)
+    }
+
+    /// The page of the board, or why it is refused.
+    pub fn page(&self, wanted: &WantedPage) -> Result<[u8; PAGE_LENGTH], ExtractFault>
+        ensures page { IfOk result (λ page. page
+            ≡ page_for (shown_of (board_of self.now)) (lines_of (board_of self.now))
+            wanted.now.name.now wanted.now.minute) }
+        ensures refused { (s : Standing) → fault_of result
+            ≡ refusal_of (ToPage wanted.now.name.now wanted.now.minute PAGE_LENGTH) s
+            (slots_of (board_of self.now)) }
+    {
+        let mut bytes = [b' '; PAGE_LENGTH];
+        page(&self.board, &mut bytes, wanted.name.as_bytes(), wanted.minute)?;
+        Ok(bytes)
     }
 
     // Confirms the open extract, or drops it where a row of it was refused or it is not complete.
@@ -230,10 +250,11 @@ impl<'a, 'b, S: Store + Drop> Followed<'a, 'b, S> {
     }
 }
 
-/// Prints the kind of the store, its capacity, and how many line slots its board has. The store
-/// stays as it was.
+/// Prints the word for a task, the kind of the store, its capacity, and how many line slots its board
+/// has. The store stays as it was.
 pub fn print_head<S: Store>(
     rt: &HostRuntime,
+    task: &str,
     store: &mut S,
     kind: StoreKind,
     slots: usize,
@@ -241,6 +262,6 @@ pub fn print_head<S: Store>(
     ensures { store.new ≡ store.old }
 {
     let capacity = store.capacity();
-    println!(rt; "run store {kind}: capacity {capacity}, line slots {slots}")?;
+    println!(rt; "{task} store {kind}: capacity {capacity}, line slots {slots}")?;
     Ok(())
 }

@@ -3,4 +3,5 @@
 
 pub mod extracts;
 pub mod follow;
+pub mod glass;
 pub mod replay;

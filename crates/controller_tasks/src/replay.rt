@@ -1,9 +1,10 @@
 //! Scripts of calls, made to installations over both stores.
-ghost use Rattle.std.specs.Prelude.{◌≡◌, IfOk, Ok, Some, length, map, IfErr, Err};
+ghost use Rattle.std.specs.Prelude.{◌≡◌, IfOk, Ok, Some, length, map, IfErr, Err, replicate};
 ghost use Rattle.std.specs.Bool.{Decides};
 ghost use Rattle.board.specs.Boards.{lines_of};
 ghost use Rattle.runs.specs.Calls.{call_meant, first_ledger};
-ghost use Rattle.runs.specs.Runs.{Begins};
+ghost use Rattle.runs.specs.Runs.{Begins, bytes_in};
+ghost use Rattle.runs.specs.declared.pair.Side.TheVariants.{Left, Right};
 ghost use Rattle.runs.specs.Pairs.{WholePromise};
 ghost use Rattle.scripts.specs.Histories.{history_of, histories_in};
 ghost use Rattle.scripts.specs.Steps.{call_of};
@@ -11,13 +12,16 @@ ghost use Rattle.list_tasks.specs.Errors.{NamesLine};
 
 use anyhow::anyhow;
 use board::display::{Board, StationDay};
+use crate::glass::print_frame;
 use board::line::Line;
 use controller::answer::Answer;
 use list_tasks::boards::{empty_line, print_each};
 use list_tasks::error::{TaskError, read_file};
 use list_tasks::keeping::empty_record;
 use list_tasks::rows::{Counts, print_calls};
+use page::page::PAGE_LENGTH;
 use runs::call::Call;
+use runs::memory::Memory;
 use runs::pair::{Pair, Side};
 use runs::plan::Plan;
 use runs::run::Run;
@@ -30,12 +34,17 @@ use timetable::{Store, Timetable};
 use wording::answers::AnswerWords;
 use wording::words::Text;
 
-// Line slots for the board of a controller, the calls, and a place for the answer to each.
+// How many bytes the memory has that the calls to a controller write into.
+const MEMORY: usize = 1_024;
+
+// Line slots for the board of a controller, the calls, a place for the answer to each, and memory for
+// those that write.
 #[derive(Drop)]
 struct RunMemory<'a> {
     lines: Vec<Line>,
     calls: Vec<Call<'a>>,
     answers: Vec<Answer>,
+    bytes: Vec<u8>,
 }
 
 impl<'a> RunMemory<'a> {
@@ -50,6 +59,7 @@ impl<'a> RunMemory<'a> {
             (λ memory. map call_meant memory.calls.items ≡ map call_of steps.now) }
         ensures answers { IfOk result
             (λ memory. length memory.answers.items ≡ length steps.now) }
+        ensures bytes { IfOk result (λ memory. memory.bytes.items ≡ replicate MEMORY 0) }
     {
         let mut calls = Vec::new(rt.alloc());
         for step in steps {
@@ -59,6 +69,7 @@ impl<'a> RunMemory<'a> {
             lines: vec![in rt.alloc(); empty_line(); history.slots]?,
             calls,
             answers: vec![in rt.alloc(); Answer::Done; steps.len()]?,
+            bytes: vec![in rt.alloc(); 0; MEMORY]?,
         })
     }
 
@@ -68,12 +79,15 @@ impl<'a> RunMemory<'a> {
         ensures slots { result.slots.now ≡ self.old.lines.items }
         ensures answers { result.answers.now ≡ self.old.answers.items }
         ensures store { result.store ≡ store }
+        ensures bytes { result.memory.bytes.now ≡ self.old.bytes.items }
     {
+        let bytes = self.bytes.as_mut_slice();
         Plan {
             store,
             slots: self.lines.as_mut_slice(),
             calls: self.calls.as_slice(),
             answers: self.answers.as_mut_slice(),
+            memory: Memory { bytes },
         }
     }
 }
@@ -93,6 +107,30 @@ fn call_next<S: Store, T: Store>(
     }
 }
 
+// The memory of a side, as its calls have left it.
+fn bytes_of<'p, S: Timetable, T: Timetable>(
+    pair: &'p Pair<'_, '_, S, T>,
+    side: Side,
+) -> &'p [u8]
+    ensures left { side ≡ Left → result.now ≡ bytes_in pair.now.left }
+    ensures right { side ≡ Right → result.now ≡ bytes_in pair.now.right }
+{
+    match side {
+        Side::Left => pair.left.bytes(),
+        Side::Right => pair.right.bytes(),
+    }
+}
+
+// Prints the page that a call of a side has written.
+fn print_written<S: Timetable, T: Timetable>(
+    rt: &HostRuntime,
+    pair: &Pair<'_, '_, S, T>,
+    side: Side,
+) -> anyhow::Result<()> {
+    let bytes = bytes_of(pair, side);
+    print_frame(rt, &bytes[..bytes.len().min(PAGE_LENGTH)])
+}
+
 // Makes the call of each line to a side, prints its answer, and counts it.
 fn print_answers<S: Store, T: Store>(
     rt: &HostRuntime,
@@ -107,6 +145,9 @@ fn print_answers<S: Store, T: Store>(
         let word = step.word();
         let words = AnswerWords(&answer);
         println!(rt; "{number} {word}: {words}")?;
+        if let (Step::Page { .. }, Answer::Done) = (step, &answer) {
+            print_written(rt, pair, side)?;
+        }
         counts.note_answer(&answer);
     }
     Ok(())
@@ -164,9 +205,21 @@ fn print_other<T: Store>(rt: &HostRuntime, bag: &Run<'_, T>, same: bool) -> anyh
     Ok(())
 }
 
-// Prints whether the bag's controller answered the same calls with the same, and whether both
-// boards show the same.
-fn print_compared(rt: &HostRuntime, same_answers: bool, same_board: bool) -> anyhow::Result<()> {
+// Whether the calls of two runs left the same in their memories.
+fn is_same_memory<S: Store, T: Store>(left: &Run<'_, S>, right: &Run<'_, T>) -> bool
+    ensures { Decides result (bytes_in left.now ≡ bytes_in right.now) }
+{
+    left.bytes() == right.bytes()
+}
+
+// Prints whether the bag's controller answered the same calls with the same, whether both boards
+// show the same, and where the memories differ, that they do.
+fn print_compared(
+    rt: &HostRuntime,
+    same_answers: bool,
+    same_board: bool,
+    same_memory: bool,
+) -> anyhow::Result<()> {
     let answers = if same_answers {
         "the same answers"
     } else {
@@ -177,7 +230,8 @@ fn print_compared(rt: &HostRuntime, same_answers: bool, same_board: bool) -> any
     } else {
         "another board"
     };
-    println!(rt; "bag: {answers}, {board}")?;
+    let memory = if same_memory { "" } else { ", another memory" };
+    println!(rt; "bag: {answers}, {board}{memory}")?;
     Ok(())
 }
 
@@ -193,7 +247,8 @@ fn print_ends<S: Store, T: Store>(
     if history.other.is_some() {
         return print_other(rt, right, same);
     }
-    print_compared(rt, left.answers() == right.answers(), same)
+    let answers = left.answers() == right.answers();
+    print_compared(rt, answers, same, is_same_memory(left, right))
 }
 
 // Prints how a history begins, and how many calls it has.

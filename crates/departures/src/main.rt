@@ -4,14 +4,14 @@
 use command_line::{NoTask, tasks_in};
 use controller_tasks::extracts::Extracts;
 use controller_tasks::follow::Followed;
-use controller_tasks::{extracts, follow, replay};
+use controller_tasks::{extracts, follow, glass, replay};
 use list_tasks::error::TaskError;
 use list_tasks::keeping::Both;
 use list_tasks::{boards, keeping, rows};
 use std::env;
 use std::process::ExitCode;
 use stores::{Bag, Table};
-use tasks::{StoreKind, Task, Wanted, Work};
+use tasks::{StoreKind, Task, Wanted, WantedPage, Work};
 use timetable::Store;
 
 fn run_rows(rt: &HostRuntime, files: &[&str]) -> Result<(), TaskError> {
@@ -63,8 +63,10 @@ fn run_work<S: Store + Drop>(
     match work {
         Work::Board(files) => run_board(rt, store, wanted, files.as_slice()),
         Work::Turns(times, files) => run_turns(rt, store, wanted, *times, files.as_slice()),
+        Work::Pages(times, files) => run_pages(rt, store, wanted, *times, files.as_slice()),
         Work::Extracts(base, files) => run_extracts(rt, store, wanted, *base, files.as_slice()),
-        Work::Run(files) => run_followed(rt, store, wanted, files.as_slice()),
+        Work::Run(files) => run_followed(rt, store, wanted, None, files.as_slice()),
+        Work::Glass(page, files) => run_followed(rt, store, wanted, Some(page), files.as_slice()),
     }
 }
 
@@ -95,6 +97,20 @@ fn run_turns<S: Store + Drop>(
     Ok(())
 }
 
+// Puts the schedules of the files into a store, and writes the page of the board so many times.
+fn run_pages<S: Store + Drop>(
+    rt: &HostRuntime,
+    mut store: S,
+    wanted: Wanted,
+    times: u64,
+    files: &[&str],
+) -> Result<(), TaskError> {
+    let _ = load_files(rt, &mut store, files)?;
+    let mut lines = boards::line_slots(rt, &mut store)?;
+    boards::print_pages(rt, &mut store, lines.as_mut_slice(), wanted, times)?;
+    Ok(())
+}
+
 // Loads the base into a store, and takes the extracts of the files over it.
 fn run_extracts<S: Store + Drop>(
     rt: &HostRuntime,
@@ -116,21 +132,27 @@ fn run_extracts<S: Store + Drop>(
     Ok(())
 }
 
-// Takes the extracts of the files over a store, confirms those without a refused row, and prints the board at the end.
+// Takes the extracts of the files over a store, confirms those without a refused row, and prints the board at the end, or the page of it
+// that is wanted.
 fn run_followed<S: Store + Drop>(
     rt: &HostRuntime,
     mut store: S,
     wanted: Wanted,
+    page: Option<&WantedPage>,
     files: &[&str],
 ) -> Result<(), TaskError> {
     let mut lines = boards::line_slots(rt, &mut store)?;
-    follow::print_head(rt, &mut store, wanted.store, lines.len())?;
+    let task = if page.is_some() { "glass" } else { "run" };
+    follow::print_head(rt, task, &mut store, wanted.store, lines.len())?;
     let mut followed = Followed::new(store, lines.as_mut_slice(), wanted);
     followed.turn(rt)?;
     for name in files {
         followed.take_file(rt, name)?;
     }
-    followed.print_board(rt)?;
+    match page {
+        Some(page) => glass::print_page(rt, &followed, page)?,
+        None => followed.print_board(rt)?,
+    }
     rows::print_outcome(rt, files.len() as u64, "done", &followed.counts)?;
     Ok(())
 }

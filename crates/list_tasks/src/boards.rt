@@ -10,6 +10,7 @@ use board::line::{Line, LineKey};
 use cif::reading::read;
 use cif::refusal::Refusal;
 use files::Rows;
+use page::page::{PAGE_LENGTH, write_page};
 use std::alloc::AllocError;
 use tasks::Wanted;
 use timetable::{Store, Timetable};
@@ -179,5 +180,41 @@ pub fn print_turns<S: Store>(
     };
     let lines = shown.lines().len();
     println!(rt; "turns {times}: lines {lines}")?;
+    Ok(())
+}
+
+// The sum of the bytes of a board's page, written so many times into one memory, from each minute of
+// the day in turn; a sum of 64 bits begins anew.
+fn sum_of_pages(shown: &Board, times: u64) -> u64 {
+    let mut page = [0; PAGE_LENGTH];
+    let mut sum: u64 = 0;
+    for turn in 0..times {
+        let minute = (turn % 1_440) as u32;
+        if write_page(shown, &mut page, &[], minute).is_ok() {
+            for byte in &page {
+                sum = sum.wrapping_add(u64::from(*byte));
+            }
+        }
+    }
+    sum
+}
+
+/// Turns a board to what is wanted, writes its page so many times, and prints the sum of the bytes
+/// that were written. The store stays as it was.
+pub fn print_pages<S: Store>(
+    rt: &HostRuntime,
+    store: &mut S,
+    slots: &mut [Line],
+    wanted: Wanted,
+    times: u64,
+) -> anyhow::Result<()>
+    ensures { store.new ≡ store.old }
+{
+    let shown = match turned(rt, store, slots, wanted, 1)? {
+        Ok(shown) => shown,
+        Err(refusal) => return print_refused(rt, "", refusal),
+    };
+    let sum = sum_of_pages(&shown, times);
+    println!(rt; "pages {times}: bytes {sum}")?;
     Ok(())
 }

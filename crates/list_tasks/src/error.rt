@@ -1,7 +1,7 @@
 //! Why a task ended before it was done.
 ghost use Rattle.std.specs.Prelude.{◌≡◌, IfErr};
 ghost use Rattle.list_tasks.specs.declared.error.TaskError.TheVariants.{Other};
-ghost use Rattle.list_tasks.specs.Errors.{IsOther, NamesFile};
+ghost use Rattle.list_tasks.specs.Errors.{IsOther, NamesFile, NamesWritten};
 
 use std::alloc::AllocError;
 use std::{error, fmt, fs, io};
@@ -17,6 +17,8 @@ A line is empty, begins with # and is passed over, or is one of these:
   confirm
   abandon
   turn DAY BYTES      DAY is from 0 to 4294967295, and BYTES are a station
+  page LENGTH MINUTE BYTES
+                      LENGTH is a number from 0, MINUTE from 0 to 4294967295, and BYTES are a local name
   tell PLACE          PLACE is a number from 0
   tally
 Only a line that is passed over may stand before the first new.";
@@ -26,6 +28,8 @@ Only a line that is passed over may stand before the first new.";
 pub enum TaskError {
     /// A file cannot be read: its name, and why.
     File(String, io::Error),
+    /// A file cannot be written: its name, and why.
+    Unwritten(String, io::Error),
     /// A line of a script may not stand there: the script's name, and the line's number from 1.
     Line(String, usize),
     /// What is printed cannot be written, or no memory is left.
@@ -60,6 +64,7 @@ impl fmt::Display for TaskError {
     fn fmt<W: fmt::Write>(&self, f: &mut fmt::Formatter<W>) -> fmt::Result {
         match self {
             TaskError::File(name, error) => write!(f, "cannot read {name}: {error}"),
+            TaskError::Unwritten(name, error) => write!(f, "cannot write {name}: {error}"),
             TaskError::Line(script, number) => write!(f, "script {script}, line {number}: {LINES}"),
             TaskError::Other(error) => write!(f, "{error}"),
         }
@@ -75,5 +80,19 @@ pub fn read_file(rt: &HostRuntime, name: &str) -> Result<Vec<u8>, TaskError>
     match fs::read(rt, name) {
         Ok(bytes) => Ok(bytes),
         Err(error) => Err(TaskError::File(String::from_str(rt.alloc(), name)?, error)),
+    }
+}
+
+/// Writes bytes to a file, in the place of what it held. Where it cannot be written the error names
+/// it.
+pub fn write_file(rt: &HostRuntime, name: &str, bytes: &[u8]) -> Result<(), TaskError>
+    ensures { IfErr result (NamesWritten name.now) }
+{
+    match fs::write(rt, name, bytes) {
+        Ok(()) => Ok(()),
+        Err(error) => {
+            let name = String::from_str(rt.alloc(), name)?;
+            Err(TaskError::Unwritten(name, error))
+        }
     }
 }
