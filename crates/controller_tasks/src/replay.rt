@@ -108,10 +108,7 @@ fn call_next<S: Store, T: Store>(
 }
 
 // The memory of a side, as its calls have left it.
-fn bytes_of<'p, S: Timetable, T: Timetable>(
-    pair: &'p Pair<'_, '_, S, T>,
-    side: Side,
-) -> &'p [u8]
+fn bytes_of<'p, S: Store, T: Store>(pair: &'p Pair<'_, '_, S, T>, side: Side) -> &'p [u8]
     ensures left { side ≡ Left → result.now ≡ bytes_in pair.now.left }
     ensures right { side ≡ Right → result.now ≡ bytes_in pair.now.right }
 {
@@ -122,7 +119,7 @@ fn bytes_of<'p, S: Timetable, T: Timetable>(
 }
 
 // Prints the page that a call of a side has written.
-fn print_written<S: Timetable, T: Timetable>(
+fn print_written<S: Store, T: Store>(
     rt: &HostRuntime,
     pair: &Pair<'_, '_, S, T>,
     side: Side,

@@ -4,11 +4,9 @@ ghost use Rattle.std.specs.Fmt.{DisplaysOnOk};
 ghost use Rattle.wording.specs.Pages.{frame_text, character_text, cell_text, picture_text};
 
 use crate::words::Text;
+use page::rows::COLUMNS;
 use std::fmt;
 use std::fmt::{Display, Formatter};
-
-// How many characters a row of a page has.
-const COLUMNS: usize = 24;
 
 // What stands above the rows of a frame and below them.
 const BORDER: &str = "+------------------------+";
