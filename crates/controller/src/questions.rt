@@ -60,9 +60,9 @@ impl<S> Controller<S> {
     }
 }
 
-/// Writes the page of a board: a heading, from the local name or the board's TIPLOC, and the first ten lines that depart at or
-/// after a minute of the day. Name, page and minute may be any. A page that is not of 264 bytes is refused with 16, a minute above
-/// 1,439 with 17, and a byte of the name outside 32 to 126 with 18; then the page does not change. The board never does.
+/// Writes the page of a board into the memory that it is handed; docs/page.md says what stands on it. What is not of 264 bytes is
+/// refused with 16, a minute above 1,439 with 17, and a byte of the name outside 32 to 126 with 18; then the memory does not change.
+/// The board never does.
 pub fn page(
     board: &Board<'_>,
     page: &mut [u8],

@@ -8,11 +8,11 @@ use board::line::Line;
 use cif::refusal::Refusal;
 use controller::controller::Controller;
 use controller::fault::ExtractFault;
+use controller::questions::page;
 use extract::stage::Stage;
 use files::Rows;
 use list_tasks::boards::{filled, print_lines, print_refused};
 use list_tasks::error::{TaskError, read_file};
-use controller::questions::page;
 use list_tasks::rows::Counts;
 use page::page::PAGE_LENGTH;
 use tasks::{StoreKind, Wanted, WantedPage};
@@ -132,7 +132,12 @@ impl<'a, 'b, S: Store + Drop> Followed<'a, 'b, S> {
             (slots_of (board_of self.now)) }
     {
         let mut bytes = [b' '; PAGE_LENGTH];
-        page(&self.board, &mut bytes, wanted.name.as_bytes(), wanted.minute)?;
+        page(
+            &self.board,
+            &mut bytes,
+            wanted.name.as_bytes(),
+            wanted.minute,
+        )?;
         Ok(bytes)
     }
 

@@ -10,9 +10,9 @@ ghost use Rattle.scripts.specs.Histories.{history_of, histories_in};
 ghost use Rattle.scripts.specs.Steps.{call_of};
 ghost use Rattle.list_tasks.specs.Errors.{NamesLine};
 
+use crate::glass::print_frame;
 use anyhow::anyhow;
 use board::display::{Board, StationDay};
-use crate::glass::print_frame;
 use board::line::Line;
 use controller::answer::Answer;
 use list_tasks::boards::{empty_line, print_each};

@@ -10,7 +10,7 @@ use board::line::{Line, LineKey};
 use cif::reading::read;
 use cif::refusal::Refusal;
 use files::Rows;
-use page::page::{PAGE_LENGTH, write_page};
+use page::page::{LAST_MINUTE, PAGE_LENGTH, write_page};
 use std::alloc::AllocError;
 use tasks::Wanted;
 use timetable::{Store, Timetable};
@@ -188,8 +188,8 @@ pub fn print_turns<S: Store>(
 fn sum_of_pages(shown: &Board, times: u64) -> u64 {
     let mut page = [0; PAGE_LENGTH];
     let mut sum: u64 = 0;
-    for turn in 0..times {
-        let minute = (turn % 1_440) as u32;
+    for time in 0..times {
+        let minute = (time % (u64::from(LAST_MINUTE) + 1)) as u32;
         if write_page(shown, &mut page, &[], minute).is_ok() {
             for byte in &page {
                 sum = sum.wrapping_add(u64::from(*byte));

@@ -48,9 +48,9 @@ trimmed_from text =
       blank_behind = all_reversed g.before g.blank;
       ends = record {
         first = λ (h : 0 < length (reverse w)).
-          sym (ap (λ l. is_blank (get_or l 0 32)) parts ∙ ap is_blank (get_or_append_left (reverse w) (reverse g.before) 32 0 h)) ∙ f.ends (omega arith);
+            sym (ap (λ l. is_blank (get_or l 0 32)) parts ∙ ap is_blank (get_or_append_left (reverse w) (reverse g.before) 32 0 h)) ∙ f.ends (omega arith);
         last = λ (h : 0 < length (reverse w)).
-          ap (λ l. is_blank (get_or l 0 32)) (reverse-reverse w) ∙ g.ends (omega (arith, length-reverse w));
+            ap (λ l. is_blank (get_or l 0 32)) (reverse-reverse w) ∙ g.ends (omega (arith, length-reverse w));
       };
     }
 
@@ -62,16 +62,16 @@ heading_from name tiploc = chosen (trimmed name) (trimmed_from name)
     chosen [] f = inr (
       trimmed_from tiploc,
       ap (list_all is_blank) f.are
-      ∙ list_all-append is_blank (f.before ++ []) f.behind
-      ∙ and_from (list_all is_blank (f.before ++ [])) (list_all is_blank f.behind) (ap (list_all is_blank) (append-nil f.before) ∙ f.blank_before) f.blank_behind,
+          ∙ list_all-append is_blank (f.before ++ []) f.behind
+          ∙ and_from (list_all is_blank (f.before ++ [])) (list_all is_blank f.behind) (ap (list_all is_blank) (append-nil f.before) ∙ f.blank_before) f.blank_behind,
     )
     chosen (b ∷ t) f = inl (
       f,
       ap (list_all is_blank) f.are
-      ∙ list_all-append is_blank (f.before ++ b ∷ t) f.behind
-      ∙ and_left (list_all is_blank (f.before ++ b ∷ t)) (list_all is_blank f.behind) (
-        list_all-append is_blank f.before (b ∷ t)
-        ∙ and_right (list_all is_blank f.before) (is_blank b && list_all is_blank t) (and_left (is_blank b) (list_all is_blank t) (f.ends.first (omega arith)))),
+          ∙ list_all-append is_blank (f.before ++ b ∷ t) f.behind
+          ∙ and_left (list_all is_blank (f.before ++ b ∷ t)) (list_all is_blank f.behind) (
+          list_all-append is_blank f.before (b ∷ t)
+          ∙ and_right (list_all is_blank f.before) (is_blank b && list_all is_blank t) (and_left (is_blank b) (list_all is_blank t) (f.ends.first (omega arith)))),
     )
 
 -- which of two texts is the heading, by the length of the first

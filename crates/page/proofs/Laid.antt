@@ -14,7 +14,7 @@ within : (first last : ℕ) (text : List ℕ) (fs : List Field) (column k : ℕ)
 within first last text fs column k e h =
     let from : column - first ≡ k = omega arith in
     cond-true (leb first column && leb column last) (byte_in (columns first last text) column) (byte_of fs column)
-      (and_from (leb first column) (leb column last) (le-leb first column (omega arith)) (le-leb column last h))
+    (and_from (leb first column) (leb column last) (le-leb first column (omega arith)) (le-leb column last h))
     ∙ ap (λ i. get_or text i 32) from
 
 past : (first last : ℕ) (text : List ℕ) (fs : List Field) (column : ℕ) → last < column → byte_of (columns first last text ∷ fs) column ≡ byte_of fs column
@@ -59,55 +59,55 @@ shows_line heading lines k l h e =
     record {
       hour_minute = λ j q. byte (0 + j) (line_fields l) h (omega arith) is ∙ within 1 4 time fs1 (1 + (0 + j)) j (omega arith) (omega arith);
       fifth = λ j q.
-        byte (4 + j) (line_fields l) h (omega arith) is
-        ∙ past 1 4 time fs1 (1 + (4 + j)) (omega arith)
-        ∙ ahead 6 12 l.destination fs2 (1 + (4 + j)) (omega arith)
-        ∙ ahead 14 16 l.platform fs3 (1 + (4 + j)) (omega arith)
-        ∙ ahead 18 19 l.operator fs4 (1 + (4 + j)) (omega arith)
-        ∙ ahead 21 24 l.train [] (1 + (4 + j)) (omega arith);
+          byte (4 + j) (line_fields l) h (omega arith) is
+          ∙ past 1 4 time fs1 (1 + (4 + j)) (omega arith)
+          ∙ ahead 6 12 l.destination fs2 (1 + (4 + j)) (omega arith)
+          ∙ ahead 14 16 l.platform fs3 (1 + (4 + j)) (omega arith)
+          ∙ ahead 18 19 l.operator fs4 (1 + (4 + j)) (omega arith)
+          ∙ ahead 21 24 l.train [] (1 + (4 + j)) (omega arith);
       destination = λ j q.
-        byte (5 + j) (line_fields l) h (omega arith) is
-        ∙ past 1 4 time fs1 (1 + (5 + j)) (omega arith)
-        ∙ within 6 12 l.destination fs2 (1 + (5 + j)) j (omega arith) (omega arith);
+          byte (5 + j) (line_fields l) h (omega arith) is
+          ∙ past 1 4 time fs1 (1 + (5 + j)) (omega arith)
+          ∙ within 6 12 l.destination fs2 (1 + (5 + j)) j (omega arith) (omega arith);
       thirteenth = λ j q.
-        byte (12 + j) (line_fields l) h (omega arith) is
-        ∙ past 1 4 time fs1 (1 + (12 + j)) (omega arith)
-        ∙ past 6 12 l.destination fs2 (1 + (12 + j)) (omega arith)
-        ∙ ahead 14 16 l.platform fs3 (1 + (12 + j)) (omega arith)
-        ∙ ahead 18 19 l.operator fs4 (1 + (12 + j)) (omega arith)
-        ∙ ahead 21 24 l.train [] (1 + (12 + j)) (omega arith);
+          byte (12 + j) (line_fields l) h (omega arith) is
+          ∙ past 1 4 time fs1 (1 + (12 + j)) (omega arith)
+          ∙ past 6 12 l.destination fs2 (1 + (12 + j)) (omega arith)
+          ∙ ahead 14 16 l.platform fs3 (1 + (12 + j)) (omega arith)
+          ∙ ahead 18 19 l.operator fs4 (1 + (12 + j)) (omega arith)
+          ∙ ahead 21 24 l.train [] (1 + (12 + j)) (omega arith);
       platform = λ j q.
-        byte (13 + j) (line_fields l) h (omega arith) is
-        ∙ past 1 4 time fs1 (1 + (13 + j)) (omega arith)
-        ∙ past 6 12 l.destination fs2 (1 + (13 + j)) (omega arith)
-        ∙ within 14 16 l.platform fs3 (1 + (13 + j)) j (omega arith) (omega arith);
+          byte (13 + j) (line_fields l) h (omega arith) is
+          ∙ past 1 4 time fs1 (1 + (13 + j)) (omega arith)
+          ∙ past 6 12 l.destination fs2 (1 + (13 + j)) (omega arith)
+          ∙ within 14 16 l.platform fs3 (1 + (13 + j)) j (omega arith) (omega arith);
       seventeenth = λ j q.
-        byte (16 + j) (line_fields l) h (omega arith) is
-        ∙ past 1 4 time fs1 (1 + (16 + j)) (omega arith)
-        ∙ past 6 12 l.destination fs2 (1 + (16 + j)) (omega arith)
-        ∙ past 14 16 l.platform fs3 (1 + (16 + j)) (omega arith)
-        ∙ ahead 18 19 l.operator fs4 (1 + (16 + j)) (omega arith)
-        ∙ ahead 21 24 l.train [] (1 + (16 + j)) (omega arith);
+          byte (16 + j) (line_fields l) h (omega arith) is
+          ∙ past 1 4 time fs1 (1 + (16 + j)) (omega arith)
+          ∙ past 6 12 l.destination fs2 (1 + (16 + j)) (omega arith)
+          ∙ past 14 16 l.platform fs3 (1 + (16 + j)) (omega arith)
+          ∙ ahead 18 19 l.operator fs4 (1 + (16 + j)) (omega arith)
+          ∙ ahead 21 24 l.train [] (1 + (16 + j)) (omega arith);
       operator = λ j q.
-        byte (17 + j) (line_fields l) h (omega arith) is
-        ∙ past 1 4 time fs1 (1 + (17 + j)) (omega arith)
-        ∙ past 6 12 l.destination fs2 (1 + (17 + j)) (omega arith)
-        ∙ past 14 16 l.platform fs3 (1 + (17 + j)) (omega arith)
-        ∙ within 18 19 l.operator fs4 (1 + (17 + j)) j (omega arith) (omega arith);
+          byte (17 + j) (line_fields l) h (omega arith) is
+          ∙ past 1 4 time fs1 (1 + (17 + j)) (omega arith)
+          ∙ past 6 12 l.destination fs2 (1 + (17 + j)) (omega arith)
+          ∙ past 14 16 l.platform fs3 (1 + (17 + j)) (omega arith)
+          ∙ within 18 19 l.operator fs4 (1 + (17 + j)) j (omega arith) (omega arith);
       twentieth = λ j q.
-        byte (19 + j) (line_fields l) h (omega arith) is
-        ∙ past 1 4 time fs1 (1 + (19 + j)) (omega arith)
-        ∙ past 6 12 l.destination fs2 (1 + (19 + j)) (omega arith)
-        ∙ past 14 16 l.platform fs3 (1 + (19 + j)) (omega arith)
-        ∙ past 18 19 l.operator fs4 (1 + (19 + j)) (omega arith)
-        ∙ ahead 21 24 l.train [] (1 + (19 + j)) (omega arith);
+          byte (19 + j) (line_fields l) h (omega arith) is
+          ∙ past 1 4 time fs1 (1 + (19 + j)) (omega arith)
+          ∙ past 6 12 l.destination fs2 (1 + (19 + j)) (omega arith)
+          ∙ past 14 16 l.platform fs3 (1 + (19 + j)) (omega arith)
+          ∙ past 18 19 l.operator fs4 (1 + (19 + j)) (omega arith)
+          ∙ ahead 21 24 l.train [] (1 + (19 + j)) (omega arith);
       train = λ j q.
-        byte (20 + j) (line_fields l) h (omega arith) is
-        ∙ past 1 4 time fs1 (1 + (20 + j)) (omega arith)
-        ∙ past 6 12 l.destination fs2 (1 + (20 + j)) (omega arith)
-        ∙ past 14 16 l.platform fs3 (1 + (20 + j)) (omega arith)
-        ∙ past 18 19 l.operator fs4 (1 + (20 + j)) (omega arith)
-        ∙ within 21 24 l.train [] (1 + (20 + j)) j (omega arith) (omega arith);
+          byte (20 + j) (line_fields l) h (omega arith) is
+          ∙ past 1 4 time fs1 (1 + (20 + j)) (omega arith)
+          ∙ past 6 12 l.destination fs2 (1 + (20 + j)) (omega arith)
+          ∙ past 14 16 l.platform fs3 (1 + (20 + j)) (omega arith)
+          ∙ past 18 19 l.operator fs4 (1 + (20 + j)) (omega arith)
+          ∙ within 21 24 l.train [] (1 + (20 + j)) j (omega arith) (omega arith);
     }
 
 pub laid_out : (heading : List ℕ) (lines : List Line) → LaidOut heading lines (page_of heading lines)

@@ -65,12 +65,12 @@ one_page heading lines xs ys a b =
     let m = a.bytes in
     let n = b.bytes in
     same_lists xs ys (m ∙ sym n) (λ i d h.
-      let here : 24 * (i / 24) + i % 24 ≡ i = omega arith in
-      get_or_default xs i d 0 h
-      ∙ ap (λ k. get_or xs k 0) (sym here)
-      ∙ same_row heading lines xs ys a b (i / 24) (i % 24) (omega arith) (omega arith)
-      ∙ ap (λ k. get_or ys k 0) here
-      ∙ sym (get_or_default ys i d 0 (omega arith)))
+    let here : 24 * (i / 24) + i % 24 ≡ i = omega arith in
+    get_or_default xs i d 0 h
+    ∙ ap (λ k. get_or xs k 0) (sym here)
+    ∙ same_row heading lines xs ys a b (i / 24) (i % 24) (omega arith) (omega arith)
+    ∙ ap (λ k. get_or ys k 0) here
+    ∙ sym (get_or_default ys i d 0 (omega arith)))
 
 -- what is left of lines from the first on that passes a test
 pub from_first : (Line → Bool) → List Line → List Line
@@ -115,9 +115,9 @@ trimmed_is text [] f =
 trimmed_is text (b ∷ part) f =
     let whole = b ∷ part in
     ap without_last_blanks (
-      ap without_first_blanks (f.are ∙ append_assoc f.before whole f.behind)
-      ∙ passed_over f.before (whole ++ f.behind) f.blank_before
-      ∙ stays (whole ++ f.behind) (λ h. f.ends.first (omega arith)))
+    ap without_first_blanks (f.are ∙ append_assoc f.before whole f.behind)
+    ∙ passed_over f.before (whole ++ f.behind) f.blank_before
+    ∙ stays (whole ++ f.behind) (λ h. f.ends.first (omega arith)))
     ∙ ap (λ l. reverse (without_first_blanks l)) (reverse-append whole f.behind)
     ∙ ap reverse (passed_over (reverse f.behind) (reverse whole) (all_reversed f.behind f.blank_behind) ∙ stays (reverse whole) (λ h. f.ends.last (omega arith)))
     ∙ reverse-reverse whole

@@ -75,8 +75,8 @@ row_written f g each m n t e others =
     let this = each m in
     let first : take (24 * m) (flat_map f (range_with_len 0 t)) ≡ before = ap (take (24 * m)) of_f ∙ take_at before (f m ++ behind) (24 * m) long in
     let last : drop (24 * (m + 1)) (flat_map f (range_with_len 0 t)) ≡ behind =
-      ap (drop (24 * (m + 1))) (of_f ∙ sym (append_assoc before (f m) behind))
-      ∙ drop_at (before ++ f m) behind (24 * (m + 1)) (length-append before (f m) ∙ (let z : length before + length (f m) ≡ 24 * (m + 1) = omega arith in z)) in
+    ap (drop (24 * (m + 1))) (of_f ∙ sym (append_assoc before (f m) behind))
+    ∙ drop_at (before ++ f m) behind (24 * (m + 1)) (length-append before (f m) ∙ (let z : length before + length (f m) ≡ 24 * (m + 1) = omega arith in z)) in
     ap (λ l. l ++ g m ++ drop (24 * (m + 1)) (flat_map f (range_with_len 0 t))) (first ∙ same_rows f g 0 m (λ k p q. others k (λ i. absurd (let z : ⊥ = omega arith in z))))
     ∙ ap (λ l. flat_map g (range_with_len 0 m) ++ g m ++ l) (last ∙ same_rows f g (m + 1) n (λ k p q. others k (λ i. absurd (let z : ⊥ = omega arith in z))))
     ∙ append_assoc (flat_map g (range_with_len 0 m)) (g m) (flat_map g (range_with_len (m + 1) n))
@@ -127,9 +127,9 @@ one_written heading lines n d page row few within is so =
     let b : (n + 1 + 1) * 24 ≡ 24 * (n + 1 + 1) = omega arith in
     let e : n + 1 ≡ suc n = omega arith in
     let written : row ≡ so_far heading lines (n + 1) (n + 1) =
-      is ∙ sym (cond-true (leb (n + 1) (n + 1)) (page_row heading lines (n + 1)) (row_of []) (le-leb (n + 1) (n + 1) (omega arith))
-        ∙ ap (page_row heading lines) e
-        ∙ ap (λ o. row_of (option_map_or line_fields o [])) (slice_get-get_or lines n d within)) in
+    is ∙ sym (cond-true (leb (n + 1) (n + 1)) (page_row heading lines (n + 1)) (row_of []) (le-leb (n + 1) (n + 1) (omega arith))
+    ∙ ap (page_row heading lines) e
+    ∙ ap (λ o. row_of (option_map_or line_fields o [])) (slice_get-get_or lines n d within)) in
     ap (λ i. take i page ++ row ++ drop ((n + 1 + 1) * 24) page) a
     ∙ ap (λ i. take (24 * (n + 1)) page ++ row ++ drop i page) b
     ∙ ap (λ r. take (24 * (n + 1)) page ++ r ++ drop (24 * (n + 1 + 1)) page) written

@@ -11,8 +11,8 @@ pub text_is : (n : ℕ) (xs : List ℕ) → length xs ≡ n → xs ≡ map (λ k
 text_is n xs e =
     same_lists _ _ (e ∙ sym (length-map-range_with_len (λ k. get_or xs k 32) 0 n))
     (λ k d lt.
-      get_or_default xs k d 32 lt
-      ∙ sym (get_or-map-range_with_len (λ k. get_or xs k 32) 0 n k k d (omega arith) (omega arith)))
+    get_or_default xs k d 32 lt
+    ∙ sym (get_or-map-range_with_len (λ k. get_or xs k 32) 0 n k k d (omega arith) (omega arith)))
 
 -- a row with a text put at a place
 abbrev pub with_text : List ℕ → ℕ → List ℕ → List ℕ
@@ -41,21 +41,21 @@ padded n text =
     let all : length blanks ≡ n = length-replicate n 32 in
     let rest = length-drop (length front) blanks in
     same_lists (front ++ drop (length front) blanks) (map (λ k. get_or text k 32) (range_with_len 0 n))
-      (length-append front (drop (length front) blanks) ∙ (let z : length front + length (drop (length front) blanks) ≡ n = omega arith in z) ∙ sym (length-map-range_with_len (λ k. get_or text k 32) 0 n))
-      (λ k d lt.
-        let within : k < n = omega (arith, length-append front (drop (length front) blanks)) in
-        (elim (cases_lt k (length front)) [
-          | inl h ↦
-              get_or_append_left front (drop (length front) blanks) d k h
-              ∙ get_or-take n text k d within
-              ∙ get_or_default text k d 32 (omega arith)
-          | inr h ↦
-              get_or-append_right front (drop (length front) blanks) (length front) k d refl h
-              ∙ get_or-drop (length front) blanks (k - length front) d
-              ∙ get_or-replicate n (length front + (k - length front)) 32 d (omega arith)
-              ∙ sym (get_or_past text k 32 (omega arith))
-        ])
-        ∙ sym (get_or-map-range_with_len (λ k. get_or text k 32) 0 n k k d within (omega arith)))
+    (length-append front (drop (length front) blanks) ∙ (let z : length front + length (drop (length front) blanks) ≡ n = omega arith in z) ∙ sym (length-map-range_with_len (λ k. get_or text k 32) 0 n))
+    (λ k d lt.
+    let within : k < n = omega (arith, length-append front (drop (length front) blanks)) in
+    (elim (cases_lt k (length front)) [
+      | inl h ↦
+          get_or_append_left front (drop (length front) blanks) d k h
+          ∙ get_or-take n text k d within
+          ∙ get_or_default text k d 32 (omega arith)
+      | inr h ↦
+          get_or-append_right front (drop (length front) blanks) (length front) k d refl h
+          ∙ get_or-drop (length front) blanks (k - length front) d
+          ∙ get_or-replicate n (length front + (k - length front)) 32 d (omega arith)
+          ∙ sym (get_or_past text k 32 (omega arith))
+    ])
+    ∙ sym (get_or-map-range_with_len (λ k. get_or text k 32) 0 n k k d within (omega arith)))
 
 -- a heading put into a blank row gives its row
 pub heading_row_is : (heading : List ℕ) (k : ℕ) (row : List ℕ) → k ≡ min (length heading) 24 → row ≡ with_text (replicate 24 32) 0 (take k heading) → row ≡ row_of (heading_fields heading)

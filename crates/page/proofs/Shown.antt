@@ -45,24 +45,24 @@ earlier : (m : ℕ) (lines : List Line) (i : ℕ) → i ≤ length lines → Fro
 earlier m lines i h at =
     let long = length-take-le i lines h in
     all_from (λ l. not (departs_from m l)) (take i lines) (λ k d lt.
-      ap (λ l. not (departs_from m l)) (get_or-take i lines k d (omega arith))
-      ∙ not_from_false (departs_from m (get_or lines k d)) (lt-leb m (get_or lines k d).key.minute (ltb-true (get_or lines k d).key.minute m (at.0 k d (omega arith) (omega arith)))))
+    ap (λ l. not (departs_from m l)) (get_or-take i lines k d (omega arith))
+    ∙ not_from_false (departs_from m (get_or lines k d)) (lt-leb m (get_or lines k d).key.minute (ltb-true (get_or lines k d).key.minute m (at.0 k d (omega arith) (omega arith)))))
 
 later : (m : ℕ) (lines : List Line) (i : ℕ) → i ≤ length lines → From m lines i → list_all (departs_from m) (drop i lines) ≡ true
 later m lines i h at =
     let long = length-drop i lines in
     all_from (departs_from m) (drop i lines) (λ k d lt.
-      ap (departs_from m) (get_or-drop i lines k d)
-      ∙ le-leb m (get_or lines (i + k) d).key.minute (ltb-false (get_or lines (i + k) d).key.minute m (at.1 (i + k) d (omega arith) (omega arith))))
+    ap (departs_from m) (get_or-drop i lines k d)
+    ∙ le-leb m (get_or lines (i + k) d).key.minute (ltb-false (get_or lines (i + k) d).key.minute m (at.1 (i + k) d (omega arith) (omega arith))))
 
 -- they are the first ten
 pub first_ten_is : (m : ℕ) (lines : List Line) (i : ℕ) → i ≤ length lines → From m lines i → take 10 (drop i lines) ≡ first_ten m lines
 first_ten_is m lines i h at =
     sym (ap (take 10) (
-      ap (filter (departs_from m)) (sym (take-append-drop i lines))
-      ∙ filter-append (departs_from m) (take i lines) (drop i lines)
-      ∙ ap (λ l. l ++ filter (departs_from m) (drop i lines)) (none_kept (departs_from m) (take i lines) (earlier m lines i h at))
-      ∙ all_kept (departs_from m) (drop i lines) (later m lines i h at)))
+    ap (filter (departs_from m)) (sym (take-append-drop i lines))
+    ∙ filter-append (departs_from m) (take i lines) (drop i lines)
+    ∙ ap (λ l. l ++ filter (departs_from m) (drop i lines)) (none_kept (departs_from m) (take i lines) (earlier m lines i h at))
+    ∙ all_kept (departs_from m) (drop i lines) (later m lines i h at)))
 
 shown_from : (m : ℕ) (lines : List Line) (i : ℕ) → i ≤ length lines → From m lines i → ShownFrom m lines (take 10 (drop i lines))
 shown_from m lines i h at =
@@ -71,12 +71,12 @@ shown_from m lines i h at =
       before = take i lines;
       rest = drop 10 ys;
       are =
-        sym (take-append-drop i lines)
-        ∙ ap (λ l. take i lines ++ l) (sym (take-append-drop 10 ys))
-        ∙ sym (append_assoc (take i lines) (take 10 ys) (drop 10 ys));
+          sym (take-append-drop i lines)
+          ∙ ap (λ l. take i lines ++ l) (sym (take-append-drop 10 ys))
+          ∙ sym (append_assoc (take i lines) (take 10 ys) (drop 10 ys));
       earlier = earlier m lines i h at;
       later = (and_parts (list_all (departs_from m) (take 10 ys)) (list_all (departs_from m) (drop 10 ys)) (
-        sym (list_all-append (departs_from m) (take 10 ys) (drop 10 ys)) ∙ ap (list_all (departs_from m)) (take-append-drop 10 ys) ∙ later m lines i h at)).0;
+          sym (list_all-append (departs_from m) (take 10 ys) (drop 10 ys)) ∙ ap (list_all (departs_from m)) (take-append-drop 10 ys) ∙ later m lines i h at)).0;
       at_most = omega (arith, length-take 10 ys);
       whole = elim (cases_lt (length ys) 11) [ inl few ↦ inl (drop_all 10 ys (omega arith)) | inr many ↦ inr (length-take-le 10 ys (omega arith)) ];
     }
@@ -94,10 +94,10 @@ place_of m (l ∷ ls) rise = elim (cases_lt l.key.minute m) [
       let rest = place_of m ls (λ i j d p q. rise (suc i) (suc j) d (omega arith) (omega arith)) in
       record { place = suc rest.place; within = let w = rest.within in omega arith; at = (before h rest, behind rest) }
   | inr h ↦ record {
-      place = 0;
-      within = omega arith;
-      at = (λ k d p q. absurd (let z : ⊥ = omega arith in z), λ k d p q. le-ltb (get_or (l ∷ ls) k d).key.minute m (let r = rise 0 k d (omega arith) q in omega arith));
-    }
+    place = 0;
+    within = omega arith;
+    at = (λ k d p q. absurd (let z : ⊥ = omega arith in z), λ k d p q. le-ltb (get_or (l ∷ ls) k d).key.minute m (let r = rise 0 k d (omega arith) q in omega arith));
+  }
 ]
   where
     before : l.key.minute < m → (rest : Place m ls) → (k : ℕ) (d : Line) → 0 ≤ k → k < suc rest.place → ltb (get_or (l ∷ ls) k d).key.minute m ≡ true

@@ -35,10 +35,10 @@ tiploc_of None = 32 ∷ 32 ∷ 32 ∷ 32 ∷ 32 ∷ 32 ∷ 32 ∷ []
 abbrev pub page_for : Option StationDay → List Line → List ℕ → ℕ → List ℕ
 page_for shown lines name minute = page_of (heading_of name (tiploc_of shown)) (first_ten minute lines)
 
--- the table of refusals of a page: it is not of 264 bytes, the minute is above 1,439, a byte of the name is outside 32 to 126
+-- the table of refusals of a page in so many bytes: they are not 264, the minute is above 1,439, a byte of the name is outside 32 to 126
 abbrev pub page_lines : List ℕ → ℕ → ℕ → List TableLine
-page_lines name minute length_in =
-    line PageLength 0 (not (length_in == 264))
+page_lines name minute bytes =
+    line PageLength 0 (not (bytes == 264))
     ∷ line NoSuchMinute 0 (nat_lt 1439 minute)
     ∷ line BadNameByte 0 (not (list_all is_printable name))
     ∷ []

@@ -1,5 +1,6 @@
 -- Worked cases of pages.
 use Rattle.std.specs.Prelude.{◌≡◌, [], ◌∷◌, ◌++◌, None, codes, replicate}
+use Rattle.running.specs.Worked.{Worked as TrainCases}
 use Rattle.board.specs.declared.line.Line.{Line}
 use Rattle.page.specs.Headings.{heading_of}
 use Rattle.page.specs.Rows.{row_of, line_fields}
@@ -16,8 +17,9 @@ example_line =
       operator = codes "ZZ";
     }
 
--- the worked cases
+-- the table of worked cases: those of trains, with those of fields and rows in them, and those of pages
 pub record Worked : Type 0 where
+  pub trains : TrainCases
   pub row : row_of (line_fields example_line) ≡ codes "0905 HALTA   4   ZZ 1A23"
   pub name : heading_of (codes "  Halta Road ") (codes "HALTA  ") ≡ codes "Halta Road"
   pub blank_name : heading_of (codes "   ") (codes "HALTA  ") ≡ codes "HALTA"

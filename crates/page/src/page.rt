@@ -23,8 +23,8 @@ pub const LINES: usize = 10;
 /// How many bytes a page has: the row of its heading and those of its lines.
 pub const PAGE_LENGTH: usize = (1 + LINES) * COLUMNS;
 
-// The last minute of a day.
-const LAST_MINUTE: u32 = 1_439;
+/// The last minute of a day.
+pub const LAST_MINUTE: u32 = 1_439;
 
 // Whether a page can be written: it has as many bytes as a page, the minute is one of a day, and each
 // byte of the name is printable.
@@ -102,6 +102,10 @@ pub fn write_page(
         Some(shown) => shown.station,
         None => [b' '; 7],
     };
-    write_rows(page, heading(name, &station), first_ten(board.lines(), minute));
+    write_rows(
+        page,
+        heading(name, &station),
+        first_ten(board.lines(), minute),
+    );
     Ok(())
 }

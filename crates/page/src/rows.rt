@@ -7,9 +7,9 @@ use board::line::Line;
 /// How many characters a row has.
 pub const COLUMNS: usize = 24;
 
-// A number in two digits.
+// A number in two digits. The minute of a line may be any of 16 bits, and then its hours are up to 1,092.
 fn two_digits(number: u16) -> [u8; 2]
-    requires { number < 1500 }
+    requires { number ≤ 1092 }
     ensures { result ≡ two_digits number }
 {
     [b'0' + (number / 10) as u8, b'0' + (number % 10) as u8]

@@ -23,7 +23,7 @@ call_meant (AsksRow row) = Row row.now
 call_meant AsksConfirm = Confirm
 call_meant AsksAbandon = Abandon
 call_meant (AsksTurn station day) = Turn station.now day
-call_meant (AsksPage bytes name minute) = Page name.now minute bytes
+call_meant (AsksPage name minute bytes) = Page name.now minute bytes
 call_meant (AsksTell place) = Tell place
 call_meant AsksTally = Tally
 

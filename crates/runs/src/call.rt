@@ -15,12 +15,12 @@ pub enum Call<'a> {
     Turn(&'a [u8], u32),
     /// Write the page of the board.
     Page {
-        /// How many bytes of the memory are handed in, from its first one on: so many, or all there are.
-        bytes: usize,
         /// The local name, any bytes.
         name: &'a [u8],
         /// The minute of the day from which on departures are shown, any number.
         minute: u32,
+        /// How many bytes of the memory are handed in, from its first one on: so many, or all there are.
+        length: usize,
     },
     /// Tell the board's line at a place counted from 0.
     Tell(usize),

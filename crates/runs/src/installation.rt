@@ -27,22 +27,22 @@ pub struct Installation<'a, S> {
 }
 
 // Writes the page of a board into the first bytes of a memory: so many, or all there are.
-fn write_page(
+fn write_within(
     board: &Board<'_>,
     memory: &mut [u8],
-    bytes: usize,
     name: &[u8],
     minute: u32,
+    asked: usize,
 ) -> Result<(), ExtractFault>
     ensures obeys { (s : Standing) (tally : ℕ) → let here = state s tally board.now in
-        Obeys here here (call_within (length memory.old) (ToPage name.now minute bytes))
+        Obeys here here (call_within (length memory.old) (ToPage name.now minute asked))
         (answer_of result) }
     ensures leaves { (s : Standing) (tally : ℕ) (ℓ : Ledger) → KeepsTo (state s tally board.now) ℓ
-        → LeavesBytes ℓ (call_within (length memory.old) (ToPage name.now minute bytes))
+        → LeavesBytes ℓ (call_within (length memory.old) (ToPage name.now minute asked))
         (is_accepted (answer_of result)) memory.old memory.new }
     ensures unchanged { OnErr result (memory.new ≡ memory.old) }
 {
-    let handed = bytes.min(memory.len());
+    let handed = asked.min(memory.len());
     page(board, &mut memory[..handed], name, minute)
 }
 
@@ -77,12 +77,10 @@ impl<'a, S: Store> Installation<'a, S> {
                 Answer::from(self.controller.turn(&mut self.board, station, *day))
             }
             Call::Page {
-                bytes,
                 name,
                 minute,
-            } => {
-                Answer::from(write_page(&self.board, memory.bytes, *bytes, name, *minute))
-            }
+                length,
+            } => { Answer::from(write_within(&self.board, memory.bytes, name, *minute, *length)) }
             Call::Tell(place) => Answer::Told(tell(&mut self.board, *place)),
             Call::Tally => Answer::Tally(self.controller.tally()),
         }

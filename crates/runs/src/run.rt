@@ -104,6 +104,7 @@ impl<'a, S: Store> Run<'a, S> {
     {
         self.answers
     }
+
     /// The bytes that calls write into, as the calls that were made have left them.
     pub fn bytes(&self) -> &[u8]
         ensures { result.now ≡ bytes_in self.now }

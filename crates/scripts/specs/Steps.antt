@@ -11,7 +11,7 @@ call_of (AsksRow row) = Row row.items
 call_of AsksConfirm = Confirm
 call_of AsksAbandon = Abandon
 call_of (AsksTurn day station) = Turn station.items day
-call_of (AsksPage bytes minute name) = Page name.items minute bytes
+call_of (AsksPage name minute bytes) = Page name.items minute bytes
 call_of (AsksTell place) = Tell place
 call_of AsksTally = Tally
 
@@ -22,6 +22,6 @@ word_of (AsksRow row) = codes "row"
 word_of AsksConfirm = codes "confirm"
 word_of AsksAbandon = codes "abandon"
 word_of (AsksTurn day station) = codes "turn"
-word_of (AsksPage bytes minute name) = codes "page"
+word_of (AsksPage name minute bytes) = codes "page"
 word_of (AsksTell place) = codes "tell"
 word_of AsksTally = codes "tally"

@@ -51,8 +51,8 @@ fn turn_in(alloc: Global, rest: &[u8]) -> Result<Option<Step>, AllocError>
 }
 
 // The call page into so many bytes that a minute and a local name ask for.
-fn page_into(alloc: Global, bytes: usize, rest: &[u8]) -> Result<Option<Step>, AllocError>
-    ensures { IfOk result (λ step. option_map call_of step ≡ page_into bytes rest.now) }
+fn page_into(alloc: Global, length: usize, rest: &[u8]) -> Result<Option<Step>, AllocError>
+    ensures { IfOk result (λ step. option_map call_of step ≡ page_into length rest.now) }
 {
     let (minute, name) = split_blank(rest);
     let Some(minute) = number_up_to(u64::from(u32::MAX), minute) else {
@@ -61,9 +61,9 @@ fn page_into(alloc: Global, bytes: usize, rest: &[u8]) -> Result<Option<Step>, A
     let minute = minute as u32;
     let name = bytes_of(alloc, name.unwrap_or(&[]))?;
     Ok(name.map(|name| Step::Page {
-        bytes,
-        minute,
         name,
+        minute,
+        length,
     }))
 }
 
@@ -71,19 +71,15 @@ fn page_into(alloc: Global, bytes: usize, rest: &[u8]) -> Result<Option<Step>, A
 fn page_in(alloc: Global, rest: &[u8]) -> Result<Option<Step>, AllocError>
     ensures { IfOk result (λ step. option_map call_of step ≡ page_in rest.now) }
 {
-    let (bytes, rest) = split_blank(rest);
-    match (number_up_to(u64::MAX, bytes), rest) {
-        (Some(bytes), Some(rest)) => page_into(alloc, bytes as usize, rest),
+    let (length, rest) = split_blank(rest);
+    match (number_up_to(u64::MAX, length), rest) {
+        (Some(length), Some(rest)) => page_into(alloc, length as usize, rest),
         _ => Ok(None),
     }
 }
 
 // The call that a word and what follows it ask for, of those that are told something of a board.
-fn board_step_in(
-    alloc: Global,
-    word: &str,
-    rest: Option<&[u8]>,
-) -> Result<Option<Step>, AllocError>
+fn board_step_in(alloc: Global, word: &str, rest: Option<&[u8]>) -> Result<Option<Step>, AllocError>
     ensures { IfOk result (λ step. option_map call_of step
         ≡ board_call_in word.now (option_map (λ text. text.now) rest.entry)) }
 {

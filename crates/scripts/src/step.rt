@@ -19,12 +19,14 @@ pub enum Step {
     /// Turn the board to a day, by its number, and a station, by the bytes of its TIPLOC; either
     /// may be none that there is.
     Turn(u32, Vec<u8>),
-    /// Write the page of the board into so many bytes of the memory, with a local name, from a minute
-    /// on.
+    /// Write the page of the board.
     Page {
-        bytes: usize,
-        minute: u32,
+        /// The local name that heads it, any bytes.
         name: Vec<u8>,
+        /// The minute of the day from which on it shows departures, any number.
+        minute: u32,
+        /// How many bytes of the memory are handed in.
+        length: usize,
     },
     /// Tell the line at a place counted from 0.
     Tell(usize),
@@ -60,13 +62,13 @@ impl Step {
             Step::Abandon => Call::Abandon,
             Step::Turn(day, station) => Call::Turn(station.as_slice(), *day),
             Step::Page {
-                bytes,
-                minute,
                 name,
+                minute,
+                length,
             } => Call::Page {
-                bytes: *bytes,
                 name: name.as_slice(),
                 minute: *minute,
+                length: *length,
             },
             Step::Tell(place) => Call::Tell(*place),
             Step::Tally => Call::Tally,

@@ -1,10 +1,10 @@
 //! The time from which on a page shows departures, by its word.
 ghost use Rattle.std.specs.Prelude.{◌≡◌, ◌<◌, ◌≤◌, IfSome};
-ghost use Rattle.tasks.specs.Clocks.{clock_in, two_digits};
+ghost use Rattle.tasks.specs.Clocks.{clock_in, number_of};
 
 // The number that two digits write, if both are digits.
-fn two_digits(tens: u8, ones: u8) -> Option<u32>
-    ensures reads { result ≡ two_digits tens ones }
+fn number_of(tens: u8, ones: u8) -> Option<u32>
+    ensures reads { result ≡ number_of tens ones }
     ensures below { IfSome result (λ n. n < 100) }
 {
     match (tens, ones) {
@@ -23,7 +23,7 @@ pub fn clock(word: &str) -> Option<u32>
     if bytes.len() != 5 || bytes[2] != b':' {
         return None;
     }
-    let hours = two_digits(bytes[0], bytes[1])?;
-    let minutes = two_digits(bytes[3], bytes[4])?;
+    let hours = number_of(bytes[0], bytes[1])?;
+    let minutes = number_of(bytes[3], bytes[4])?;
     Some(60 * hours + minutes)
 }

@@ -5,12 +5,12 @@ use Rattle.forms.specs.Bytes.{is_blank}
 use Rattle.wording.specs.Texts.{text_of}
 
 -- the row of a page at a place, counted from 0: 24 bytes, or what is left where fewer are
-abbrev pub row_at : List ℕ → ℕ → List ℕ
-row_at page place = take 24 (drop (24 * place) page)
+abbrev pub row_bytes : List ℕ → ℕ → List ℕ
+row_bytes page place = take 24 (drop (24 * place) page)
 
 -- the rows of a page one after another, 11 where it has its 264 bytes; the last row is what is left
 abbrev pub rows_of : List ℕ → List (List ℕ)
-rows_of page = map (row_at page) (range_with_len 0 ((length page + 23) / 24))
+rows_of page = map (row_bytes page) (range_with_len 0 ((length page + 23) / 24))
 
 -- the border above and below the rows, with 24 dashes
 abbrev pub border : List ℕ

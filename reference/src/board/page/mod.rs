@@ -7,6 +7,8 @@ use super::turned::Board;
 use crate::forms::Tiploc;
 use crate::refusal::Reason;
 use std::fmt;
+use std::io::Write;
+use std::iter;
 
 pub const COLUMNS: usize = 24;
 /// The row of the heading and those of lines.
@@ -14,8 +16,6 @@ pub const ROWS: usize = 11;
 pub const BYTES: usize = ROWS * COLUMNS;
 /// The first number that is no minute of the day.
 pub const MINUTES: u32 = 1_440;
-
-const BLANK: u8 = b' ';
 
 impl Board {
     /// Writes the page with this local name, from this minute on, into the memory.
@@ -29,57 +29,48 @@ impl Board {
         if !name.iter().all(|byte| (32..=126).contains(byte)) {
             return Err(Reason::NameByte);
         }
-        memory.fill(BLANK);
-        let (heading, rows) = memory.split_at_mut(COLUMNS);
-        write_heading(heading, name, self.station());
-        for (row, line) in rows.chunks_exact_mut(COLUMNS).zip(self.lines_from(minute)) {
-            write_line(row, line);
+        let departing = self.lines().iter().filter(|line| line.minute >= minute);
+        let mut lines = departing.map(Some).chain(iter::repeat(None));
+        let mut rows = memory.chunks_exact_mut(COLUMNS);
+        if let Some(row) = rows.next() {
+            write_heading(row, name, self.station());
+        }
+        for row in rows {
+            write_line(row, lines.next().flatten());
         }
         Ok(())
     }
-
-    /// The lines that depart at or after the minute, which are the last of the board.
-    fn lines_from(&self, minute: u32) -> &[Shown] {
-        let lines = self.lines();
-        &lines[lines.partition_point(|line| line.minute < minute)..]
-    }
 }
 
-/// Writes the name, or the station where the name has only blanks, as far as the row goes.
+/// Fills the row with the name, or with the station where the name has only blanks, as far as it goes.
 fn write_heading(row: &mut [u8], name: &[u8], station: Option<&Tiploc>) {
-    let heading = match (trimmed(name), station) {
-        ([], Some(station)) => trimmed(station.0.as_bytes()),
-        (name, _) => name,
+    let name = String::from_utf8_lossy(name);
+    let station = station.map_or("", |station| station.0.as_str());
+    let heading = match name.trim_matches(' ') {
+        "" => station.trim_matches(' '),
+        name => name,
     };
-    put(row, 1, &heading[..heading.len().min(COLUMNS)]);
+    fill(row, format_args!("{heading:24.24}"));
 }
 
-/// Writes a line into a row of blanks.
-fn write_line(row: &mut [u8], line: &Shown) {
-    put(row, 1, &two_digits(line.minute / 60));
-    put(row, 3, &two_digits(line.minute % 60));
-    put(row, 6, line.destination.as_bytes());
-    put(row, 14, line.platform.0.as_bytes());
-    put(row, 18, line.operator.as_bytes());
-    put(row, 21, line.identity.0.as_bytes());
+/// Fills the row with a line, or with blanks where there is none.
+fn write_line(row: &mut [u8], line: Option<&Shown>) {
+    let Some(line) = line else {
+        return fill(row, format_args!("{:24}", ""));
+    };
+    let (hours, minutes) = (line.minute / 60, line.minute % 60);
+    let (destination, platform) = (&line.destination, &line.platform.0);
+    let (operator, identity) = (&line.operator, &line.identity.0);
+    let text = format_args!(
+        "{hours:02}{minutes:02} {destination:7} {platform:3} {operator:2} {identity:4}"
+    );
+    fill(row, text);
 }
 
-/// Puts the bytes into the row from this column on.
-fn put(row: &mut [u8], column: usize, bytes: &[u8]) {
-    row[column - 1..][..bytes.len()].copy_from_slice(bytes);
-}
-
-/// The digits of a number below 100.
-fn two_digits(number: u32) -> [u8; 2] {
-    [number / 10, number % 10].map(|digit| b'0' + digit as u8)
-}
-
-/// The bytes without the blanks at both ends.
-fn trimmed(mut bytes: &[u8]) -> &[u8] {
-    while let [BLANK, rest @ ..] | [rest @ .., BLANK] = bytes {
-        bytes = rest;
-    }
-    bytes
+/// Writes a text as long as the row into it.
+fn fill(mut row: &mut [u8], text: fmt::Arguments<'_>) {
+    row.write_fmt(text)
+        .expect("a row has room for 24 characters");
 }
 
 /// A page with a frame around it.

@@ -7,8 +7,8 @@ use Rattle.page.proofs.page.first_ten.Goals.{After-min}
 from : (c : After-min) → From c.args.minute c.args.lines.now c.partition_point-first.result
 from c =
     IsPartitionPoint-from_clause (λ l. ltb l.key.minute c.args.minute) _ _ c.partition_point-first.ensures.partitioned
-      (IsPartitionedBy-ltb (λ l. l.key.minute) c.args.lines.now c.args.minute (minutes_rise c.args.lines.now c.requires))
-      (λ a r q k. search rules)
+    (IsPartitionedBy-ltb (λ l. l.key.minute) c.args.lines.now c.args.minute (minutes_rise c.args.lines.now c.requires))
+    (λ a r q k. search rules)
 
 pub returns : goal.returns
 returns c =

@@ -18,7 +18,7 @@ pub returns-clause-places : goal.returns-clause-places
 returns-clause-places c =
     let page : c.write_rows.new.page ≡ page_for (shown_of c.args.board.now) (lines_of c.args.board.now) c.args.name.now c.args.minute = search rules in
     subst (LaidOut (heading_of c.args.name.now (tiploc_of (shown_of c.args.board.now))) (first_ten c.args.minute (lines_of c.args.board.now)))
-      (sym page) (laid_out (heading_of c.args.name.now (tiploc_of (shown_of c.args.board.now))) (first_ten c.args.minute (lines_of c.args.board.now)))
+    (sym page) (laid_out (heading_of c.args.name.now (tiploc_of (shown_of c.args.board.now))) (first_ten c.args.minute (lines_of c.args.board.now)))
 
 pub returns-clause-heading : goal.returns-clause-heading
 returns-clause-heading c = heading_from c.args.name.now (tiploc_of (shown_of c.args.board.now))

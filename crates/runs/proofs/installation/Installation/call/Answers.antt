@@ -34,8 +34,8 @@ returns-in-Page-clause-does g c =
     let here = stands g.S.Timetable.meaning self in
     let e = c.in-Page.is in
     rw e (record {
-      obeys = subst (λ (a : Answer). Obeys here here (page_asked c.in-Page.name c.in-Page.minute c.in-Page.bytes c.args.memory.now) a) (sym c.from-in-Page.ensures)
-          (c.write_page.ensures.obeys (standing_in g.S.Timetable.meaning self.controller) (count_of self.controller));
+      obeys = subst (λ (a : Answer). Obeys here here (page_asked c.in-Page.name c.in-Page.minute c.in-Page.length c.args.memory.now) a) (sym c.from-in-Page.ensures)
+          (c.write_within.ensures.obeys (standing_in g.S.Timetable.meaning self.controller) (count_of self.controller));
       unchanged = untouched (is_accepted c.from-in-Page.result) self;
       store = search rules;
       store_stays = λ h. refl {a = self.controller.overlay.store};
@@ -48,9 +48,9 @@ returns-in-Page-clause-memory g c =
     let e = c.in-Page.is in
     rw e (record {
       leaves = λ ℓ k. record {
-        bytes = subst (λ (a : Answer). LeavesBytes ℓ (page_asked c.in-Page.name c.in-Page.minute c.in-Page.bytes c.args.memory.now) (is_accepted a) c.args.memory.now.bytes.now c.write_page.new.memory) (sym c.from-in-Page.ensures)
-            (c.write_page.ensures.leaves (standing_in g.S.Timetable.meaning self.controller) (count_of self.controller) ℓ k);
+        bytes = subst (λ (a : Answer). LeavesBytes ℓ (page_asked c.in-Page.name c.in-Page.minute c.in-Page.length c.args.memory.now) (is_accepted a) c.args.memory.now.bytes.now c.write_within.new.memory) (sym c.from-in-Page.ensures)
+            (c.write_within.ensures.leaves (standing_in g.S.Timetable.meaning self.controller) (count_of self.controller) ℓ k);
         lender = refl;
       };
-      untouched = untouched_page c.write_page.result c.from-in-Page.result c.args.memory.now c.write_page.new.memory c.from-in-Page.ensures c.write_page.ensures.unchanged;
+      untouched = untouched_page c.write_within.result c.from-in-Page.result c.args.memory.now c.write_within.new.memory c.from-in-Page.ensures c.write_within.ensures.unchanged;
     })

@@ -1,7 +1,7 @@
 use Rattle.std.proofs.Common.{◌≡◌, ◌+◌, ◌/◌, ◌++◌, ◌∙◌, arith, ap, sym, refl, true, map, min, take, drop, length, codes, flat_map, append_assoc}
 use Rattle.std.proofs.Output.{has_written_of_eq, has_written_append}
 use Rattle.std.specs.List.{range_with_len}
-use Rattle.wording.specs.Pages.{row_at, row_text, border}
+use Rattle.wording.specs.Pages.{row_bytes, row_text, border}
 use Rattle.wording.proofs.Places.{rows_more, chunk_is, rest_is, behind_row, within_more, row_count}
 use Rattle.wording.proofs.pages.FrameWordsDisplay.fmt.Goals as goal
 
@@ -26,8 +26,8 @@ loop-row-preserved g c =
     let row = c.in-Some.row.now in
     let rest = c.next.new.self.rest.now in
     let long : length row ≡ min 24 (length left) = taken.1.1 ∙ ap (λ n. min n (length left)) now.1 in
-    let is : row ≡ row_at page now.0 = chunk_is 24 left row rest taken.1.0 long ∙ ap (take 24) now.2 in
-    let rows = flat_map row_text (map (row_at page) (range_with_len 0 now.0)) in
+    let is : row ≡ row_bytes page now.0 = chunk_is 24 left row rest taken.1.0 long ∙ ap (take 24) now.2 in
+    let rows = flat_map row_text (map (row_bytes page) (range_with_len 0 now.0)) in
     let more = c.in_ok-writeln-2.ensures.writes now.4.plain (refl {a = true}) in (
       now.0 + 1,
       taken.0 ∙ now.1,
@@ -35,7 +35,7 @@ loop-row-preserved g c =
       within_more now.0 page (omega (arith, taken.1.2, ap length now.2)),
       has_written_of_eq _ _ _ _ _
           (append_assoc (border ++ codes "\n") rows (row_text row)
-          ∙ ap (λ l. border ++ codes "\n" ++ l) (ap (λ r. rows ++ row_text r) is ∙ rows_more row_text (row_at page) now.0))
+          ∙ ap (λ l. border ++ codes "\n" ++ l) (ap (λ r. rows ++ row_text r) is ∙ rows_more row_text (row_bytes page) now.0))
           (has_written_append _ _ _ _ _ _ now.4 more),
     )
 
@@ -47,6 +47,6 @@ returns-clause-writes g c =
     let page = c.args.self.now.0.now in
     let count : now.0 ≡ (length page + 23) / 24 = sym (row_count now.0 page (sym (ap length now.2) ∙ none.1.0) now.3) in
     has_written_of_eq _ _ _ _ _
-    (append_assoc (border ++ codes "\n") (flat_map row_text (map (row_at page) (range_with_len 0 now.0))) border
-    ∙ ap (λ n. border ++ codes "\n" ++ flat_map row_text (map (row_at page) (range_with_len 0 n)) ++ border) count)
+    (append_assoc (border ++ codes "\n") (flat_map row_text (map (row_bytes page) (range_with_len 0 now.0))) border
+    ∙ ap (λ n. border ++ codes "\n" ++ flat_map row_text (map (row_bytes page) (range_with_len 0 n)) ++ border) count)
     (has_written_append _ _ _ _ _ _ now.4 (c.write_str.ensures.writes now.4.plain ok))

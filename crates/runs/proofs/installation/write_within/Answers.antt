@@ -1,7 +1,7 @@
 use Rattle.std.proofs.Common.{length, take, length-take-le, arith, ◌≤◌, ◌∙◌}
 use Rattle.controller.specs.Keeping.{state}
 use Rattle.runs.proofs.Installations.{page_leaves}
-use Rattle.runs.proofs.installation.write_page.Goals as goal
+use Rattle.runs.proofs.installation.write_within.Goals as goal
 
 pub returns-clause-leaves : goal.returns-clause-leaves
 returns-clause-leaves c s tally ℓ k =
