@@ -3,6 +3,7 @@ use Rattle.std.specs.Prelude.{◌≡◌, ℕ, ◌+◌, ◌*◌, ◌<◌, ◌≤�
 use Rattle.std.specs.List.{list_all}
 use Rattle.forms.specs.Bytes.{is_blank}
 use Rattle.board.specs.declared.line.Line.{Line}
+use Rattle.forms.specs.Forms.{time_in}
 use Rattle.page.specs.Rows.{hour_minute}
 use Rattle.page.specs.Pages.{departs_from, page_of}
 
@@ -10,7 +11,7 @@ use Rattle.page.specs.Pages.{departs_from, page_of}
 abbrev pub at : List ℕ → ℕ → ℕ → ℕ
 at page row place = get_or page (24 * row + place) 0
 
--- a row of a page has a text of so many bytes from a place on
+-- a row of a page has a text of so many bytes from a place on, and blanks past the text's end
 abbrev pub Has : List ℕ → ℕ → ℕ → ℕ → List ℕ → Type 0
 Has page row place n text = (k : ℕ) → k < n → at page row (place + k) ≡ get_or text k 32
 
@@ -37,8 +38,8 @@ pub record LaidOut (heading : List ℕ) (lines : List Line) (page : List ℕ) : 
 abbrev pub PageIsLaidOut : Type 0
 PageIsLaidOut = (heading : List ℕ) (lines : List Line) → LaidOut heading lines (page_of heading lines)
 
--- lines of a board are those that a page shows from a minute on: the lines of the board are some that depart before the minute, those that
--- are shown, which depart at or after it, and the rest, of which there are none unless ten are shown
+-- of a board's lines these are shown from a minute on: the lines of the board are some that depart before the minute, those that are
+-- shown, which depart at or after it, and the rest, of which there are none unless ten are shown
 pub record ShownFrom (minute : ℕ) (lines shown : List Line) : Type 0 where
   pub before : List Line
   pub rest : List Line
@@ -73,3 +74,7 @@ pub record PageIsOne : Type 0 where
   pub page : (heading : List ℕ) (lines : List Line) (xs ys : List ℕ) → LaidOut heading lines xs → LaidOut heading lines ys → xs ≡ ys
   pub shown : (minute : ℕ) (lines xs ys : List Line) → ShownFrom minute lines xs → ShownFrom minute lines ys → xs ≡ ys
   pub heading : (name tiploc xs ys : List ℕ) → HeadingFrom name tiploc xs → HeadingFrom name tiploc ys → xs ≡ ys
+
+-- the hour and the minute of a row are read back as that minute, where it is one of a day
+abbrev pub MinuteIsRead : Type 0
+MinuteIsRead = (m : ℕ) → 0 < m → m < 1440 → time_in (hour_minute m) ≡ Some (Some m)

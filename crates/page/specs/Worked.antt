@@ -1,5 +1,5 @@
 -- Worked cases of pages.
-use Rattle.std.specs.Prelude.{◌≡◌, [], ◌∷◌, ◌++◌, None, codes, replicate}
+use Rattle.std.specs.Prelude.{◌≡◌, [], ◌∷◌, ◌++◌, Some, None, codes, replicate}
 use Rattle.running.specs.Worked.{Worked as TrainCases}
 use Rattle.board.specs.declared.line.Line.{Line}
 use Rattle.page.specs.Headings.{heading_of}
@@ -28,4 +28,6 @@ pub record Worked : Type 0 where
   pub at_its_minute : first_ten 545 (example_line ∷ []) ≡ example_line ∷ []
   pub past_its_minute : first_ten 546 (example_line ∷ []) ≡ []
   pub ten : first_ten 0 (replicate 12 example_line) ≡ replicate 10 example_line
-  pub page : page_for None (example_line ∷ []) (codes "Halta Road") 545 ≡ codes "Halta Road              0905 HALTA   4   ZZ 1A23" ++ replicate 216 32
+  pub page : page_for (Some (record { station = codes "HALTA  "; day = 23439 })) (example_line ∷ []) (codes " ") 545
+      ≡ codes "HALTA                   0905 HALTA   4   ZZ 1A23" ++ replicate 216 32
+  pub cut : page_for None [] (codes "Twenty-five characters, x") 0 ≡ codes "Twenty-five characters, " ++ replicate 240 32

@@ -1,8 +1,6 @@
 // The page of a board.
-ghost use Rattle.std.specs.Prelude.{◌≡◌, ℕ, ◌+◌, ◌*◌, ◌≤◌, true, ◌++◌, length, take, drop, OnOk, OnErr};
-ghost use Rattle.std.specs.List.{list_all};
+ghost use Rattle.std.specs.Prelude.{◌≡◌, ◌+◌, ◌*◌, ◌≤◌, true, ◌++◌, length, take, drop, OnOk, OnErr};
 ghost use Rattle.cif.specs.Refusals.{uppermost, fault_of};
-ghost use Rattle.cif.specs.Rows.{is_printable};
 ghost use Rattle.maps.specs.Maps.{ascending};
 ghost use Rattle.board.specs.Boards.{shown_of, lines_of};
 ghost use Rattle.board.specs.Lines.{line_before, line_key};

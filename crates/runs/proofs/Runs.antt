@@ -1,5 +1,5 @@
 -- A run, call by call.
-use Rattle.std.proofs.Common.{refl, None, Option, MatchOption, nat_lt, true, slice_index_or, ◌≡◌, ℕ, zero, suc, ◌+◌, ◌<◌, List, [], ◌∷◌, ◌++◌, length, take, set, Some, sym, ap, ◌∙◌, subst, arith, slice_get}
+use Rattle.std.proofs.Common.{Bool, refl, None, Option, MatchOption, nat_lt, true, slice_index_or, ◌≡◌, ℕ, zero, suc, ◌+◌, ◌<◌, List, [], ◌∷◌, ◌++◌, length, take, set, Some, sym, ap, ◌∙◌, subst, arith, slice_get}
 use Rattle.std.proofs.lemmas.List.Sums.{fold_push}
 use Rattle.std.proofs.lemmas.Bool.Decides.{nat_tests}
 use Rattle.std.specs.Option.{option_map}
@@ -17,9 +17,10 @@ use Rattle.schedule.specs.declared.transaction.Change.{Change}
 use Rattle.timetable.specs.Timetables.{Meaning, StoreEdit}
 use Rattle.extract.specs.Progress.{Progress}
 use Rattle.runs.specs.declared.call.Call.{Call as Asked}
+use Rattle.runs.specs.declared.memory.Memory.{Memory}
 use Rattle.runs.specs.declared.run.Run.{Run}
 use Rattle.runs.specs.Runs.{ledger_of, installation_of, memory_of, room_in, store_in, state_of, capacity_of, GoesOn, MakesNext}
-use Rattle.runs.specs.Calls.{call_meant, call_within, calls_within, edits_by, Does, DoesTo, Keeps, entries, ledger_at}
+use Rattle.runs.specs.Calls.{call_meant, Room, Leaves, room_of, call_within, calls_within, edits_by, Does, DoesTo, Keeps, entries, ledger_at}
 
 -- one call more
 entries_more : (qs : List Call) (rs : List Answer) (i : ℕ) (q : Call) (a : Answer) → slice_get qs i ≡ Some q → i < length rs → take (suc i) (entries qs (set rs i a)) ≡ take i (entries qs rs) ++ (q, is_accepted a) ∷ []
@@ -29,8 +30,12 @@ entries_more (x ∷ qs) (r ∷ rs) zero q a e l = ap (λ (y : Call). (y, is_acce
 entries_more (x ∷ qs) (r ∷ rs) (suc i) q a e l = ap (λ (es : List Entry). (x, is_accepted r) ∷ es) (entries_more qs rs i q a e (omega arith))
 
 -- a call stands at its place within a memory too
-pub stands_within : (m : ℕ) (qs : List Asked) (i : ℕ) (q : Asked) → slice_get qs i ≡ Some q → slice_get (calls_within m qs) i ≡ Some (call_within m (call_meant q))
+pub stands_within : (m : Room) (qs : List Asked) (i : ℕ) (q : Asked) → slice_get qs i ≡ Some q → slice_get (calls_within m qs) i ≡ Some (call_within m (call_meant q))
 stands_within m qs i q e = let within = λ (x : Asked). call_within m (call_meant x) in slice_get-map within qs i ∙ ap (option_map within) e
+
+-- what a call leaves of a memory is as much as before
+pub room_stays : {ℓ : Ledger} {call : Call} {accepted : Bool} {before after : Memory} → Leaves ℓ call accepted before after → room_of after ≡ room_of before
+room_stays l = ap (λ (n : ℕ). record { bytes = n }) l.bytes.room
 
 -- an answer that accepts a call says that no line of the table of refusals holds
 accepted_free : (ℓ : Ledger) (capacity slots : ℕ) (call : Call) (a : Answer) → AnswerOf ℓ capacity slots call a → is_accepted a ≡ true → refusal_of call (standing_of ℓ capacity) slots ≡ None
@@ -55,7 +60,7 @@ keeps_after ℓ s t call a o k =
           (ledgered.kept ℓ s.standing.store.capacity s.slots call a obeyed.told k.rows);
     }
 
-module _ (first : Ledger) (m n : ℕ) (qs : List Asked) (rs ss : List Answer) (i j : ℕ) (q d : Asked) (a : Answer) (places : length rs ≡ length qs) (there : true ≡ nat_lt i (length qs))
+module _ (first : Ledger) (m n : Room) (qs : List Asked) (rs ss : List Answer) (i j : ℕ) (q d : Asked) (a : Answer) (places : length rs ≡ length qs) (there : true ≡ nat_lt i (length qs))
     (is : q ≡ slice_index_or qs i d) (room : n ≡ m) (answers : ss ≡ set rs i a) (made : j ≡ i + 1) where
   within : i < length qs
   within = grind (arith, nat_tests)
@@ -69,7 +74,7 @@ module _ (first : Ledger) (m n : ℕ) (qs : List Asked) (rs ss : List Answer) (i
   written =
       let calls = calls_within m qs in
       let call = call_within m (call_meant q) in
-      ap (λ (k : ℕ). ledger_at first (calls_within k qs) ss j) room
+      ap (λ (r : Room). ledger_at first (calls_within r qs) ss j) room
       ∙ (ap (λ (ts : List Answer). ledger_at first calls ts j) answers
       ∙ (ap (ledger_at first calls (set rs i a)) (let z : j ≡ suc i = omega arith in z)
       ∙ (ap (ledger_after_all first) (entries_more calls rs i call a (stands_within m qs i q stands_at) (let w = within in omega arith))
@@ -89,10 +94,11 @@ makes_next meaning becomes first before after q d a there is on does memory k =
     let call = call_within (room_in before) (call_meant q) in
     let obeyed = does.obeys.ledger ℓ k.ledger in
     let leaves = memory.leaves ℓ k.ledger in
-    let at = stands_at first (room_in before) (room_in after) before.calls.now before.answers.now after.answers.now before.made after.made q d a before.places there is leaves.bytes.room on.answers on.made in
+    let room = room_stays leaves in
+    let at = stands_at first (room_in before) (room_in after) before.calls.now before.answers.now after.answers.now before.made after.made q d a before.places there is room on.answers on.made in
     let noted : ledger_of first after ≡ ledger_after ℓ call (is_accepted a) =
     ap (λ (c : _). ledger_at first (calls_within (room_in after) c.now) after.answers.now after.made) on.calls
-    ∙ written first (room_in before) (room_in after) before.calls.now before.answers.now after.answers.now before.made after.made q d a before.places there is leaves.bytes.room on.answers on.made in
+    ∙ written first (room_in before) (room_in after) before.calls.now before.answers.now after.answers.now before.made after.made q d a before.places there is room on.answers on.made in
     record {
       call = q;
       next = at;
@@ -104,6 +110,8 @@ makes_next meaning becomes first before after q d a there is on does memory k =
         keeps_after = subst (λ (m : Ledger). KeepsTo (state_of meaning after) m) (sym noted) obeyed.keeps;
         unchanged = does.unchanged;
         untouched = memory.untouched;
+        asks = does.asks;
+        behind = memory.behind;
         leaves = leaves;
         unnamed = obeyed.unnamed;
         parts = confirmed_parts ℓ (capacity_of meaning before) (state_of meaning before).slots call a obeyed.told k.rows;

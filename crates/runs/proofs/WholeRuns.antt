@@ -12,17 +12,17 @@ use Rattle.schedule.specs.declared.record.Record.{Record}
 use Rattle.timetable.specs.Timetables.{Meaning, StoreEdit}
 use Rattle.overlay.specs.Permitted.{EachMayBeDone}
 use Rattle.controller.specs.declared.answer.Answer.{Answer}
-use Rattle.controller.specs.Ledger.{Ledger, LinesOf, Entry, ledger_after_all, is_accepted}
+use Rattle.controller.specs.Ledger.{Writes, Ledger, LinesOf, Entry, ledger_after_all, is_accepted}
 use Rattle.controller.specs.Keeping.{State, KeepsTo}
 use Rattle.runs.specs.declared.call.Call.{Call as Asked}
 use Rattle.runs.specs.declared.plan.Plan.{Plan}
 use Rattle.runs.specs.declared.run.Run.{Run}
-use Rattle.runs.specs.Calls.{call_meant, room_of, call_within, calls_within, entries, ledger_at, WritesWhere, written_over}
+use Rattle.runs.specs.Calls.{call_meant, Room, room_of, call_within, calls_within, entries, ledger_at, WritesWhere, written_over}
 use Rattle.runs.specs.declared.memory.Memory.{Memory}
 use Rattle.runs.specs.Runs.{ledger_of, calls_of, memory_of, room_in, state_of, capacity_of, Makes, Next, Begins, GoesOn, installation_of}
 use Rattle.runs.specs.WholeRuns.{ByLedger, FirstCalls, ledger_of_all, PastKept, Overwritten, calls_planned, line_slots, MadeAll, RunsAll}
 use Rattle.runs.proofs.Ledgers.{start_kept}
-use Rattle.runs.proofs.Runs.{stands_within}
+use Rattle.runs.proofs.Runs.{stands_within, room_stays}
 
 -- the answer to a later call changes nothing of what was written down before it
 entries_before : (qs : List Call) (rs : List Answer) (i k : ℕ) (a : Answer) → k ≤ i → take k (entries qs (set rs i a)) ≡ take k (entries qs rs)
@@ -111,19 +111,22 @@ module _ {S : Type 0} {M : _} (meaning : S → Meaning) (becomes : S → List St
       → Overwritten first qs after.answers.now after.made lent (memory_of after)
   written_more lent planned at within old =
       let w = makes.leaves.bytes.written in
-      let more = old.written ++ w ∷ [] in
+      let so_far = old.bytes.written in
+      let more = so_far ++ w ∷ [] in
       let ledger = ap (λ (cs : List Call). ledger_at first cs before.answers.now before.made) planned in
-      let place : get_or more before.made [] ≡ w = get_or_push old.written w [] before.made old.one_each in
+      let place : get_or more before.made [] ≡ w = get_or_push so_far w [] before.made old.bytes.one_each in
       record {
-        written = more;
-        one_each = length-append old.written (w ∷ []) ∙ (ap (λ (n : ℕ). n + 1) old.one_each ∙ sym on.made);
-        each = each_on (λ k ℓ c answer. WritesWhere (is_accepted answer) ℓ c (get_or more k [])) at within
-            (subst (λ (ws : List ℕ). WritesWhere (is_accepted a) (ledger_at first qs before.answers.now before.made) call ws) (sym place)
-            (subst (λ (ℓ : Ledger). WritesWhere (is_accepted a) ℓ call w) ledger makes.leaves.bytes.writes))
-            (λ k c answer l e f. subst (λ (ws : List ℕ). WritesWhere (is_accepted answer) (ledger_at first qs before.answers.now k) c ws)
-            (sym (get_or_append_left old.written (w ∷ []) [] k (let n = old.one_each in omega arith))) (old.each k c answer l e f));
-        bytes = makes.leaves.bytes.over ∙ (ap (λ (bs : List ℕ). written_over bs w) old.bytes ∙ sym (fold_push written_over lent.bytes.now old.written w));
-        room = makes.leaves.bytes.room ∙ old.room;
+        bytes = record {
+          written = more;
+          one_each = length-append so_far (w ∷ []) ∙ (ap (λ (n : ℕ). n + 1) old.bytes.one_each ∙ sym on.made);
+          each = each_on (λ k ℓ c answer. WritesWhere (is_accepted answer) (Writes ℓ c) (get_or more k [])) at within
+              (subst (λ (ws : List ℕ). WritesWhere (is_accepted a) (Writes (ledger_at first qs before.answers.now before.made) call) ws) (sym place)
+              (subst (λ (ℓ : Ledger). WritesWhere (is_accepted a) (Writes ℓ call) w) ledger makes.leaves.bytes.wrote))
+              (λ k c answer l e f. subst (λ (ws : List ℕ). WritesWhere (is_accepted answer) (Writes (ledger_at first qs before.answers.now k) c) ws)
+              (sym (get_or_append_left so_far (w ∷ []) [] k (let n = old.bytes.one_each in omega arith))) (old.bytes.each k c answer l e f));
+          over = makes.leaves.bytes.over ∙ (ap (λ (bs : List ℕ). written_over bs w) old.bytes.over ∙ sym (fold_push written_over lent.bytes.now so_far w));
+        };
+        room = room_stays makes.leaves ∙ old.room;
         lender = makes.leaves.lender ∙ old.lender;
       }
 
@@ -140,7 +143,7 @@ pub record SoFar {S : Type 0} {M : _} (meaning : S → Meaning) (first : Ledger)
 
 -- its calls are those of the plan
 planned : {S : Type 0} {M : _} (p : Plan S) (run : Run S M) → run.calls ≡ p.calls → room_of (memory_of run) ≡ room_of p.memory → calls_of run ≡ calls_planned p
-planned p run e r = ap (λ (n : ℕ). calls_within n run.calls.now) r ∙ ap (λ (c : _). calls_within (room_of p.memory) c.now) e
+planned p run e r = ap (λ (n : Room). calls_within n run.calls.now) r ∙ ap (λ (c : _). calls_within (room_of p.memory) c.now) e
 
 pub none_made : {S : Type 0} {M : _} (meaning : S → Meaning) (first : Ledger) (p : Plan S) (run : Run S M) → Begins meaning p run → SoFar meaning first p run 0
 none_made meaning first p run b = record {
@@ -152,10 +155,12 @@ none_made meaning first p run b = record {
   slots = ap length b.slots.kept;
   past = record { lender = b.slots.lender; rest = λ n most. ap (drop n) b.slots.kept };
   memory = record {
-    written = [];
-    one_each = sym b.made;
-    each = λ k call answer l e f. absurd (let m = b.made in omega arith);
-    bytes = ap (λ (m : Memory). m.bytes.now) b.memory;
+    bytes = record {
+      written = [];
+      one_each = sym b.made;
+      each = λ k call answer l e f. absurd (let m = b.made in omega arith);
+      over = ap (λ (m : Memory). m.bytes.now) b.memory;
+    };
     room = ap room_of b.memory;
     lender = ap (λ (m : Memory). m.bytes.ghost_name) b.memory;
   };
@@ -198,7 +203,7 @@ one_more meaning becomes first p before after (Some a) n l s next =
       each = each_on meaning becomes first qs before after call a next.goes_on next.makes (λ _. ByLedger capacity slots) at within new s.each;
       capacity = next.makes.capacity ∙ s.capacity;
       slots = next.makes.slots ∙ s.slots;
-      past = past_more meaning becomes first qs before after call a next.goes_on next.makes p.slots (planned p after calls (next.makes.leaves.bytes.room ∙ s.memory.room)) s.past;
+      past = past_more meaning becomes first qs before after call a next.goes_on next.makes p.slots (planned p after calls (room_stays next.makes.leaves ∙ s.memory.room)) s.past;
       memory = written_more meaning becomes first qs before after call a next.goes_on next.makes p.memory same at within s.memory;
     }
 

@@ -27,38 +27,46 @@ call_meant (AsksPage name minute bytes) = Page name.now minute bytes
 call_meant (AsksTell place) = Tell place
 call_meant AsksTally = Tally
 
--- how many bytes a memory has
-abbrev pub room_of : Memory → ℕ
-room_of m = length m.bytes.now
+-- how much there is of each kind of memory: bytes
+pub record Room : Type 0 where
+  pub bytes : ℕ
 
--- a call within a memory of so many bytes: it is handed as many as it says, or all there are where there are fewer
-abbrev pub call_within : ℕ → Call → Call
-call_within room (Page name minute bytes) = Page name minute (min bytes room)
+-- the room that bytes make
+abbrev pub room_in_bytes : List ℕ → Room
+room_in_bytes bytes = record { bytes = length bytes }
+
+-- the room of a memory
+abbrev pub room_of : Memory → Room
+room_of m = room_in_bytes m.bytes.now
+
+-- a call within some room: it is handed as many bytes as it says, or all there are where there are fewer
+abbrev pub call_within : Room → Call → Call
+call_within room (Page name minute bytes) = Page name minute (min bytes room.bytes)
 call_within room call = call
 
--- calls as values, within such a memory
-abbrev pub calls_within : ℕ → List Asked → List Call
+-- calls as values, within some room
+abbrev pub calls_within : Room → List Asked → List Call
 calls_within room calls = map (λ q. call_within room (call_meant q)) calls
 
--- what a call writes by the ledger, whether it is accepted or refused: a refused one writes nothing
-abbrev pub WritesWhere : Bool → Ledger → Call → List ℕ → Type 0
-WritesWhere true ℓ call written = Writes ℓ call written
-WritesWhere false ℓ call written = written ≡ []
+-- what is written by a call, as it is accepted or refused: a refused one writes nothing
+abbrev pub WritesWhere : {X : Type 0} → Bool → (List X → Type 0) → List X → Type 0
+WritesWhere true writes written = writes written
+WritesWhere false writes written = written ≡ []
 
--- bytes, when others are written over them from the first one on
-abbrev pub written_over : List ℕ → List ℕ → List ℕ
+-- items, when others are written over them from the first one on
+abbrev pub written_over : {X : Type 0} → List X → List X → List X
 written_over bytes written = written ++ drop (length written) bytes
 
--- what a call leaves of bytes by the ledger: what it writes stands over what stood there, and no byte is lost
-pub record LeavesBytes (ℓ : Ledger) (call : Call) (accepted : Bool) (before after : List ℕ) : Type 0 where
-  pub written : List ℕ
-  pub writes : WritesWhere accepted ℓ call written
+-- what a call leaves in memory: what it writes stands over what stood there, and no item is lost
+pub record LeavesIn {X : Type 0} (writes : List X → Type 0) (accepted : Bool) (before after : List X) : Type 0 where
+  pub written : List X
+  pub wrote : WritesWhere accepted writes written
   pub over : after ≡ written_over before written
   pub room : length after ≡ length before
 
 -- what a call leaves of a memory, which stays the same lender's
 pub record Leaves (ℓ : Ledger) (call : Call) (accepted : Bool) (before after : Memory) : Type 0 where
-  pub bytes : LeavesBytes ℓ call accepted before.bytes.now after.bytes.now
+  pub bytes : LeavesIn (Writes ℓ call) accepted before.bytes.now after.bytes.now
   pub lender : after.bytes.ghost_name ≡ before.bytes.ghost_name
 
 -- how an installation stands
@@ -71,21 +79,35 @@ abbrev pub edits_by : Call → Bool → List Change → List StoreEdit
 edits_by Confirm true pending = edits_of pending
 edits_by _ _ pending = []
 
--- what a call does to an installation: it obeys the ledger, a refused call changes nothing, the store becomes what the confirmed
--- transactions make of it or stays the value that it was, and the slots past the board's last line keep what they had
+-- whether a call only asks: page, tell and tally
+abbrev pub only_asks : Call → Bool
+only_asks (Page name minute bytes) = true
+only_asks (Tell place) = true
+only_asks Tally = true
+only_asks _ = false
+
+-- what a call does to an installation: it obeys the ledger, a refused call and one that only asks change nothing, the store becomes what
+-- the confirmed transactions make of it or stays the value that it was, and the slots past the board's last line keep what they had
 pub record Does {S : Type 0} (meaning : S → Meaning) (becomes : S → List StoreEdit → S → Type 0) (before after : Installation S) (call : Call) (answer : Answer) : Type 0 where
   pub obeys : Obeys (stands meaning before) (stands meaning after) call answer
   pub unchanged : OnFalse (is_accepted answer) (after ≡ before)
+  pub asks : only_asks call ≡ true → after ≡ before
   pub store :
       becomes (store_of before.controller) (edits_by call (is_accepted answer) (progress_in before.controller).changes) (store_of after.controller)
   pub store_stays : is_confirm call ≡ false → store_of after.controller ≡ store_of before.controller
   pub rest : SlotsKept before.board after.board
 
--- what a call to an installation does to a memory: it has what the call writes by every ledger that was kept to before, and a refused call
--- changes nothing
+-- how many bytes of a memory a call is handed, from the first one on
+abbrev pub handed_of : Call → ℕ
+handed_of (Page name minute bytes) = bytes
+handed_of _ = 0
+
+-- what a call to an installation does to a memory: it has what the call writes by every ledger that was kept to before, a refused call
+-- changes nothing, and behind the bytes that it is handed none changes
 pub record DoesTo {S : Type 0} (meaning : S → Meaning) (before : Installation S) (lent left : Memory) (call : Call) (answer : Answer) : Type 0 where
   pub leaves : (ℓ : Ledger) → KeepsTo (stands meaning before) ℓ → Leaves ℓ call (is_accepted answer) lent left
   pub untouched : OnFalse (is_accepted answer) (left ≡ lent)
+  pub behind : drop (handed_of call) left.bytes.now ≡ drop (handed_of call) lent.bytes.now
 
 -- calls as they are written down: each with whether its answer says that it was accepted
 abbrev pub entries : List Call → List Answer → List Entry

@@ -1,5 +1,5 @@
 -- Installations that are asked one call after another, each begun new.
-use Rattle.std.specs.Prelude.{◌≡◌, ℕ, ◌+◌, ◌≤◌, Bool, true, false, List, [], length, set, Some, Option, Result, MatchOption, MatchResult, slice_get}
+use Rattle.std.specs.Prelude.{◌≡◌, ℕ, ◌+◌, ◌≤◌, Bool, true, false, List, [], drop, length, set, Some, Option, Result, MatchOption, MatchResult, slice_get}
 use Rattle.std.specs.Bool.{OnFalse}
 use Rattle.timetable.specs.Timetables.{Meaning, StoreEdit}
 use Rattle.extract.specs.Progress.{transactions_of}
@@ -11,7 +11,7 @@ use Rattle.controller.specs.Calls.{Call}
 use Rattle.controller.specs.Ledger.{Ledger, ledger_after, AnswerOf, is_accepted, has_train}
 use Rattle.controller.specs.Keeping.{State, KeepsTo, is_confirm}
 use Rattle.controller.specs.LedgerRows.{AreWhole}
-use Rattle.runs.specs.Calls.{call_meant, room_of, call_within, calls_within, edits_by, stands, ledger_at, Leaves}
+use Rattle.runs.specs.Calls.{call_meant, Room, room_of, call_within, calls_within, edits_by, only_asks, handed_of, stands, ledger_at, Leaves}
 use Rattle.runs.specs.declared.installation.Installation.{Installation}
 use Rattle.runs.specs.declared.memory.Memory.{Memory}
 use Rattle.runs.specs.declared.call.Call.{Call as Asked}
@@ -26,8 +26,8 @@ memory_of run = run.memory
 abbrev pub bytes_in : {S : Type 0} {M : _} → Run S M → List ℕ
 bytes_in run = (memory_of run).bytes.now
 
--- how many there are
-abbrev pub room_in : {S : Type 0} {M : _} → Run S M → ℕ
+-- the room of its memory
+abbrev pub room_in : {S : Type 0} {M : _} → Run S M → Room
 room_in run = room_of (memory_of run)
 
 -- the calls that it is asked
@@ -74,6 +74,10 @@ pub record Makes {S : Type 0} {M : _} (meaning : S → Meaning) (becomes : S →
   -- a refused call leaves controller, board, every slot and the memory the values that they were
   pub unchanged : OnFalse (is_accepted answer) (after.installation ≡ before.installation)
   pub untouched : OnFalse (is_accepted answer) (memory_of after ≡ memory_of before)
+  -- behind the bytes that a call is handed, none unless it writes, a memory keeps what it had
+  pub behind : drop (handed_of call) (bytes_in after) ≡ drop (handed_of call) (bytes_in before)
+  -- page, tell and tally leave controller, board and every slot the values that they were
+  pub asks : only_asks call ≡ true → after.installation ≡ before.installation
   -- an accepted page stands at the beginning of the memory, the page of the lines that the ledger works out afresh; nothing else is written
   pub leaves : Leaves (ledger_of first before) call (is_accepted answer) (memory_of before) (memory_of after)
   -- around an accepted confirm the lines of the trains that the extract does not name are the same list

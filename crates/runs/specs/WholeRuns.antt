@@ -8,7 +8,7 @@ use Rattle.board.specs.Strikes.{lines_without}
 use Rattle.overlay.specs.Permitted.{EachMayBeDone}
 use Rattle.controller.specs.declared.answer.Answer.{Answer}
 use Rattle.controller.specs.Calls.{Call}
-use Rattle.controller.specs.Ledger.{Ledger, ledger_after, ledger_after_all, LinesOf, AnswerOf, is_accepted}
+use Rattle.controller.specs.Ledger.{Ledger, ledger_after, ledger_after_all, LinesOf, AnswerOf, Writes, is_accepted}
 use Rattle.controller.specs.Keeping.{State, KeepsTo, is_confirm}
 use Rattle.runs.specs.Calls.{calls_within, room_of, entries, ledger_at, WritesWhere, written_over}
 use Rattle.runs.specs.Runs.{installation_of, memory_of, state_of, named_in, Suits}
@@ -64,13 +64,16 @@ pub record PastKept (first : Ledger) (calls : List Call) (answers : List Answer)
   pub lender : (line_slots b).ghost_name ≡ lent.ghost_name
   pub rest : (n : ℕ) → AtMost first calls answers made n → drop n (line_slots b).now ≡ drop n lent.now
 
--- a memory that was lent to a run has what its calls wrote, one over another in their order, each as the ledger of the calls before it
--- has it, and is the same lender's
-pub record Overwritten (first : Ledger) (calls : List Call) (answers : List Answer) (made : ℕ) (lent now : Memory) : Type 0 where
-  pub written : List (List ℕ)
+-- what calls wrote stands over what stood in memory, one over another in their order, each as the ledger of the calls before it has it
+pub record OverwrittenIn {X : Type 0} (writes : Ledger → Call → List X → Type 0) (first : Ledger) (calls : List Call) (answers : List Answer) (made : ℕ) (lent now : List X) : Type 0 where
+  pub written : List (List X)
   pub one_each : length written ≡ made
-  pub each : FirstCalls (λ k ℓ call answer. WritesWhere (is_accepted answer) ℓ call (get_or written k [])) first calls answers made
-  pub bytes : now.bytes.now ≡ fold written_over lent.bytes.now written
+  pub each : FirstCalls (λ k ℓ call answer. WritesWhere (is_accepted answer) (writes ℓ call) (get_or written k [])) first calls answers made
+  pub over : now ≡ fold written_over lent written
+
+-- so it does in a memory that was lent to a run; no byte is lost, and it is the same lender's
+pub record Overwritten (first : Ledger) (calls : List Call) (answers : List Answer) (made : ℕ) (lent now : Memory) : Type 0 where
+  pub bytes : OverwrittenIn Writes first calls answers made lent.bytes.now now.bytes.now
   pub room : room_of now ≡ room_of lent
   pub lender : now.bytes.ghost_name ≡ lent.bytes.ghost_name
 

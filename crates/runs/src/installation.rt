@@ -1,13 +1,13 @@
 // A controller with its board.
-ghost use Rattle.std.specs.Prelude.{◌≡◌, ℕ, length, OnErr};
+ghost use Rattle.std.specs.Prelude.{◌≡◌, ℕ, length, min, drop, OnErr};
 ghost use Rattle.extract.specs.Judging.{Standing};
 ghost use Rattle.timetable.specs.Timetables.{IsWithinCapacity};
 ghost use Rattle.board.specs.Boards.{HasSlots};
 ghost use Rattle.controller.specs.Calls.{Page as ToPage};
-ghost use Rattle.controller.specs.Ledger.{Ledger, new_ledger, answer_of, is_accepted};
+ghost use Rattle.controller.specs.Ledger.{Ledger, new_ledger, answer_of, Writes, is_accepted};
 ghost use Rattle.controller.specs.Keeping.{KeepsTo, Obeys, state};
 ghost use Rattle.controller.specs.Shown.{store_of};
-ghost use Rattle.runs.specs.Calls.{call_meant, call_within, room_of, stands, Does, DoesTo, LeavesBytes};
+ghost use Rattle.runs.specs.Calls.{call_meant, call_within, room_of, room_in_bytes, stands, Does, DoesTo, LeavesIn};
 
 use crate::call::Call;
 use crate::memory::Memory;
@@ -35,11 +35,13 @@ fn write_within(
     asked: usize,
 ) -> Result<(), ExtractFault>
     ensures obeys { (s : Standing) (tally : ℕ) → let here = state s tally board.now in
-        Obeys here here (call_within (length memory.old) (ToPage name.now minute asked))
+        Obeys here here (call_within (room_in_bytes memory.old) (ToPage name.now minute asked))
         (answer_of result) }
     ensures leaves { (s : Standing) (tally : ℕ) (ℓ : Ledger) → KeepsTo (state s tally board.now) ℓ
-        → LeavesBytes ℓ (call_within (length memory.old) (ToPage name.now minute asked))
+        → LeavesIn (Writes ℓ (call_within (room_in_bytes memory.old) (ToPage name.now minute asked)))
         (is_accepted (answer_of result)) memory.old memory.new }
+    ensures behind { drop (min asked (length memory.old)) memory.new
+        ≡ drop (min asked (length memory.old)) memory.old }
     ensures unchanged { OnErr result (memory.new ≡ memory.old) }
 {
     let handed = asked.min(memory.len());

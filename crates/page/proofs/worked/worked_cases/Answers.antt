@@ -14,4 +14,5 @@ returns c = record {
   past_its_minute = refl;
   ten = refl;
   page = refl;
+  cut = refl;
 }

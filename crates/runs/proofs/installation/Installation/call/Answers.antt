@@ -1,10 +1,10 @@
 use Rattle.std.proofs.Common.{rules, ℕ, List, Bor, refl, sym, subst}
 use Rattle.controller.specs.declared.answer.Answer.{Answer}
-use Rattle.controller.specs.Ledger.{is_accepted}
+use Rattle.controller.specs.Ledger.{is_accepted, Writes}
 use Rattle.controller.specs.Keeping.{Obeys}
 use Rattle.controller.specs.Shown.{standing_in, count_of}
 use Rattle.controller.specs.Calls.{Call, Page}
-use Rattle.runs.specs.Calls.{stands, call_within, room_of, LeavesBytes}
+use Rattle.runs.specs.Calls.{stands, call_within, room_of, LeavesIn}
 use Rattle.runs.specs.declared.memory.Memory.{Memory}
 use Rattle.runs.proofs.Installations.{nothing_written, untouched, untouched_page}
 use Rattle.runs.proofs.installation.Installation.call.Goals as goal
@@ -37,6 +37,7 @@ returns-in-Page-clause-does g c =
       obeys = subst (λ (a : Answer). Obeys here here (page_asked c.in-Page.name c.in-Page.minute c.in-Page.length c.args.memory.now) a) (sym c.from-in-Page.ensures)
           (c.write_within.ensures.obeys (standing_in g.S.Timetable.meaning self.controller) (count_of self.controller));
       unchanged = untouched (is_accepted c.from-in-Page.result) self;
+      asks = λ h. refl {a = self};
       store = search rules;
       store_stays = λ h. refl {a = self.controller.overlay.store};
       rest = record { rest = refl; slots = refl; lender = refl };
@@ -48,9 +49,10 @@ returns-in-Page-clause-memory g c =
     let e = c.in-Page.is in
     rw e (record {
       leaves = λ ℓ k. record {
-        bytes = subst (λ (a : Answer). LeavesBytes ℓ (page_asked c.in-Page.name c.in-Page.minute c.in-Page.length c.args.memory.now) (is_accepted a) c.args.memory.now.bytes.now c.write_within.new.memory) (sym c.from-in-Page.ensures)
+        bytes = subst (λ (a : Answer). LeavesIn (Writes ℓ (page_asked c.in-Page.name c.in-Page.minute c.in-Page.length c.args.memory.now)) (is_accepted a) c.args.memory.now.bytes.now c.write_within.new.memory) (sym c.from-in-Page.ensures)
             (c.write_within.ensures.leaves (standing_in g.S.Timetable.meaning self.controller) (count_of self.controller) ℓ k);
         lender = refl;
       };
       untouched = untouched_page c.write_within.result c.from-in-Page.result c.args.memory.now c.write_within.new.memory c.from-in-Page.ensures c.write_within.ensures.unchanged;
+      behind = c.write_within.ensures.behind;
     })

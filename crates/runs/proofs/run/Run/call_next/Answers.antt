@@ -2,7 +2,7 @@ use Rattle.std.proofs.Common.{◌∙◌, ap, refl, length, length-set}
 use Rattle.std.proofs.Math.Logic.{∥∥₁_map}
 use Rattle.runs.specs.Calls.{stands, room_of, first_ledger}
 use Rattle.runs.specs.Runs.{ledger_of}
-use Rattle.runs.proofs.Runs.{makes_next, keeps_on}
+use Rattle.runs.proofs.Runs.{makes_next, keeps_on, room_stays}
 use Rattle.runs.proofs.run.Run.call_next.Goals as goal
 
 pub invariant_of-self-clause-places : goal.invariant_of-self-clause-places
@@ -14,7 +14,7 @@ invariant_of-self-clause-keeps g c =
     let made = c.make.ensures in
     let at = c.in_ok-call.ensures.lookup in
     ∥∥₁_map run.keeps (λ k.
-    keeps_on first_ledger (room_of run.memory) (room_of c.make.new.memory) run.calls.now run.answers.now c.make.new.answers run.made c.make.new.made c.in_ok-call.call.now _ c.make.result run.places at.0 at.1 (made.memory.leaves (ledger_of first_ledger run) k.ledger).bytes.room made.answers made.made
+    keeps_on first_ledger (room_of run.memory) (room_of c.make.new.memory) run.calls.now run.answers.now c.make.new.answers run.made c.make.new.made c.in_ok-call.call.now _ c.make.result run.places at.0 at.1 (room_stays (made.memory.leaves (ledger_of first_ledger run) k.ledger)) made.answers made.made
     (stands g.S.Timetable.meaning run.installation) (stands g.S.Timetable.meaning c.make.new.installation) made.does.obeys k)
 
 pub returns : goal.returns
