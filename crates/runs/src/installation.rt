@@ -38,7 +38,8 @@ fn write_within(
         Obeys here here (call_within (room_in_bytes memory.old) (ToPage name.now minute asked))
         (answer_of result) }
     ensures leaves { (s : Standing) (tally : ℕ) (ℓ : Ledger) → KeepsTo (state s tally board.now) ℓ
-        → LeavesIn (Writes ℓ (call_within (room_in_bytes memory.old) (ToPage name.now minute asked)))
+        → LeavesIn
+        (Writes ℓ (call_within (room_in_bytes memory.old) (ToPage name.now minute asked)))
         (is_accepted (answer_of result)) memory.old memory.new }
     ensures behind { drop (min asked (length memory.old)) memory.new
         ≡ drop (min asked (length memory.old)) memory.old }
