@@ -2,7 +2,7 @@
 #![tactic(auto)]
 
 ghost use Rattle.std.specs.Prelude.{◌≡◌, ◌≤◌, ◌<◌, ◌%◌, ◌==◌};
-ghost use Rattle.calendar.specs.Calendar.{days_in, month_start, day_number, dated};
+ghost use Rattle.calendar.specs.Calendar.{days_in, month_start, day_number, weekday, dated};
 ghost use Rattle.calendar.specs.Laws.{NumbersTheDays, StaysInRange, TellsDatesApart};
 
 /// The highest day number: that of 31 December 2059, where 1 January 1960 has 0.
@@ -56,6 +56,13 @@ fn day_number(years: u32, month: u32, day: u32) -> u32
     365 * years + (years + 3) / 4 + month_start(years, month) + day - 1
 }
 
+/// The weekday of a day number; Monday is 0.
+pub fn weekday(number: u16) -> u8
+    ensures { result ≡ weekday number }
+{
+    ((number as u32 + 4) % 7) as u8
+}
+
 /// The day number and the weekday (Monday is 0) of a date, given by the years since 1960, month and day of the month. There is
 /// none where the calendar has no such date, or its year is not from 1960 to 2059.
 pub fn date(years: u32, month: u32, day: u32) -> Option<(u16, u8)>
@@ -64,8 +71,8 @@ pub fn date(years: u32, month: u32, day: u32) -> Option<(u16, u8)>
     if years >= 100 || month < 1 || month > 12 || day < 1 || day > days_in(is_leap(years), month) {
         return None;
     }
-    let number = day_number(years, month, day);
-    Some((number as u16, ((number + 4) % 7) as u8))
+    let number = day_number(years, month, day) as u16;
+    Some((number, weekday(number)))
 }
 
 /// The numbering begins with 1 January 1960, and the next date has the next number and weekday.

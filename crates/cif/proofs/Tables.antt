@@ -1,7 +1,8 @@
 -- Reading field by field tells the uppermost line of the table.
-use Rattle.std.proofs.Common.{◌≡◌, ℕ, Bool, true, false, cond, not, eqb, ltb, leb, List, [], ◌∷◌, ◌++◌, length, Some, None, Ok, Err, Option, Result, sym, refl, ap, ◌∙◌, arith}
+use Rattle.std.proofs.Common.{◌≡◌, ℕ, Bool, true, false, cond, not, eqb, leb, List, [], ◌∷◌, ◌++◌, length, Some, None, Ok, Err, Option, Result, sym, refl, ap, ◌∙◌}
 use Rattle.std.specs.Option.{option_map}
-use Rattle.std.proofs.lemmas.Bool.Decides.{nat_tests}
+use Rattle.forms.specs.declared.end.End.{End}
+use Rattle.forms.specs.Ends.{lasts}
 use Rattle.forms.specs.declared.letters.Stp.{Stp}
 use Rattle.forms.specs.declared.letters.Coverage.{Coverage}
 use Rattle.forms.specs.declared.letters.TransactionType.{TransactionType}
@@ -75,25 +76,26 @@ operator_told row = one (operator_of row)
     one None = refl
 
 -- the order of the days, as a test of either way round
-order_last : {Y : Type 0} (from to : ℕ) (y : Y)
-    → fault_of (cond (leb from to) (Ok y) (Err (fault_at EndsBeforeStart 16))) ≡ uppermost (line EndsBeforeStart 16 (ltb to from) ∷ [])
-order_last from to y = grind (arith, nat_tests)
+order_last : {Y : Type 0} (lasts : Bool) (y : Y)
+    → fault_of (cond lasts (Ok y) (Err (fault_at EndsBeforeStart 16))) ≡ uppermost (line EndsBeforeStart 16 (not lasts) ∷ [])
+order_last true y = refl
+order_last false y = refl
 
-module _ (ui : Option ℕ) (fr to : Option (ℕ × ℕ)) (da : Option (List Bool)) (tn : Option (List ℕ)) (st : Option Stp) where
-  abbrev running : Result Running ColumnFault
+module _ (ui : Option ℕ) (fr : Option (ℕ × ℕ)) (to : Option End) (da : Option (List Bool)) (tn : Option (List ℕ)) (st : Option Stp) where
+  abbrev pub running : Result Running ColumnFault
   running = then (field_at 16 to) (λ t. then (field_at 22 da) (λ d. then (field_at 33 tn) (λ i. Ok (record { to = t; days = d; train = i }))))
 
-  abbrev nested : Option TransactionType → Result Schedule ColumnFault
+  abbrev pub nested : Option TransactionType → Result Schedule ColumnFault
   nested tr =
       then (field_at 3 tr) (λ t. then (field_at 4 ui) (λ u. then (field_at 10 fr) (λ f. then (action_in t running) (λ c. then (field_at 80 st) (λ s.
       cond (runs_on f c) (Ok (record { uid = u; from = f; stp = s; action = c })) (Err (fault_at EndsBeforeStart 16)))))))
 
-  abbrev lines : Option TransactionType → List TableLine
+  abbrev pub lines : Option TransactionType → List TableLine
   lines tr =
       form_line 3 tr ∷ form_line 4 ui ∷ form_line 10 fr ∷ line_under (reads_all tr) (form_line 16 to) ∷ line_under (reads_all tr) (form_line 22 da) ∷ line_under (reads_all tr) (form_line 33 tn)
       ∷ form_line 80 st ∷ line_under (reads_all tr) (line EndsBeforeStart 16 (ends_before fr to)) ∷ []
 
-nested_told : (tr : Option TransactionType) (ui : Option ℕ) (fr to : Option (ℕ × ℕ)) (da : Option (List Bool)) (tn : Option (List ℕ)) (st : Option Stp)
+nested_told : (tr : Option TransactionType) (ui : Option ℕ) (fr : Option (ℕ × ℕ)) (to : Option End) (da : Option (List Bool)) (tn : Option (List ℕ)) (st : Option Stp)
     → fault_of (nested ui fr to da tn st tr) ≡ uppermost (lines ui fr to da tn st tr)
 nested_told None ui fr to da tn st = refl
 nested_told (Some t) None fr to da tn st = refl
@@ -104,12 +106,12 @@ nested_told (Some AsNew) (Some u) (Some f) None da tn st = refl
 nested_told (Some AsNew) (Some u) (Some f) (Some t) None tn st = refl
 nested_told (Some AsNew) (Some u) (Some f) (Some t) (Some d) None st = refl
 nested_told (Some AsNew) (Some u) (Some f) (Some t) (Some d) (Some i) None = refl
-nested_told (Some AsNew) (Some u) (Some f) (Some t) (Some d) (Some i) (Some s) = order_last f.0 t.0 _
+nested_told (Some AsNew) (Some u) (Some f) (Some t) (Some d) (Some i) (Some s) = order_last (lasts t f.0) _
 nested_told (Some AsRevised) (Some u) (Some f) None da tn st = refl
 nested_told (Some AsRevised) (Some u) (Some f) (Some t) None tn st = refl
 nested_told (Some AsRevised) (Some u) (Some f) (Some t) (Some d) None st = refl
 nested_told (Some AsRevised) (Some u) (Some f) (Some t) (Some d) (Some i) None = refl
-nested_told (Some AsRevised) (Some u) (Some f) (Some t) (Some d) (Some i) (Some s) = order_last f.0 t.0 _
+nested_told (Some AsRevised) (Some u) (Some f) (Some t) (Some d) (Some i) (Some s) = order_last (lasts t f.0) _
 
 schedule_told : (row : List ℕ) → fault_of (schedule_in row) ≡ uppermost (schedule_lines row)
 schedule_told row = nested_told (transaction_of row) (uid_of row) (from_of row) (to_of row) (days_of row) (train_of row) (stp_of row)

@@ -1,13 +1,15 @@
 -- The fields of each kind of row, at their columns, and what the row holds.
-use Rattle.std.specs.Prelude.{ℕ, ◌+◌, Bool, true, false, cond, ◌&&◌, List, [], ◌∷◌, Some, None, Ok, Err, Option, Result, nat_le, nat_lt}
+use Rattle.std.specs.Prelude.{ℕ, ◌+◌, Bool, true, false, cond, not, ◌&&◌, List, [], ◌∷◌, Some, None, Ok, Err, Option, Result}
 use Rattle.forms.specs.declared.letters.Stp.{Stp}
 use Rattle.forms.specs.declared.letters.TransactionType.{TransactionType}
 use Rattle.forms.specs.declared.letters.TransactionType.TheVariants.{New as AsNew, Revise as AsRevised, Delete as AsDeleted}
 use Rattle.forms.specs.declared.letters.Coverage.{Coverage}
+use Rattle.forms.specs.declared.end.End.{End}
 use Rattle.forms.specs.declared.text.Alphabet.TheVariants.{Labels}
 use Rattle.forms.specs.Bytes.{columns, byte_at}
 use Rattle.forms.specs.Letters.{stp_in, transaction_in, coverage_in}
 use Rattle.forms.specs.Forms.{text_in, uid_in, date_in, days_run_in, tiploc_in, suffix_in, time_in, reference_in, last_reference_in}
+use Rattle.forms.specs.Ends.{lasts, end_in}
 use Rattle.cif.specs.declared.refusal.Refusal.TheVariants.{EndsBeforeStart}
 use Rattle.cif.specs.declared.refusal.ColumnFault.{ColumnFault}
 use Rattle.cif.specs.declared.content.Header.{Header}
@@ -40,7 +42,7 @@ header_in row =
     then (field_at 47 (coverage_of row)) (λ k.
     Ok (record { current = c; last = l; coverage = k }))))
 
--- BS: transaction, UID, first and last day, days run, train identity, STP letter
+-- BS: transaction, UID, first day and end, days run, train identity, STP letter
 abbrev pub transaction_of : List ℕ → Option TransactionType
 transaction_of row = transaction_in (byte_at 3 row)
 
@@ -50,8 +52,8 @@ uid_of row = uid_in (columns 4 9 row)
 abbrev pub from_of : List ℕ → Option (ℕ × ℕ)
 from_of row = date_in (columns 10 15 row)
 
-abbrev pub to_of : List ℕ → Option (ℕ × ℕ)
-to_of row = date_in (columns 16 21 row)
+abbrev pub to_of : List ℕ → Option End
+to_of row = end_in (columns 16 21 row)
 
 abbrev pub days_of : List ℕ → Option (List Bool)
 days_of row = days_run_in (columns 22 28 row)
@@ -68,35 +70,41 @@ reads_all (Some AsNew) = true
 reads_all (Some AsRevised) = true
 reads_all _ = false
 
--- whether it runs from a later day than it runs to
-abbrev pub ends_before : Option (ℕ × ℕ) → Option (ℕ × ℕ) → Bool
-ends_before (Some from) (Some to) = nat_lt to.0 from.0
+-- whether it runs from a later day than it runs to: it does not last to its first day
+abbrev pub ends_before : Option (ℕ × ℕ) → Option End → Bool
+ends_before (Some from) (Some to) = not (lasts to from.0)
 ends_before _ _ = false
 
 -- a line that counts only under a condition
 abbrev pub line_under : Bool → TableLine → TableLine
 line_under b l = (l.0, b && l.1)
 
--- the lines of a BS row's fields; in a deletion only columns 3, 4 to 9, 10 to 15 and 80 are read
-abbrev pub schedule_lines : List ℕ → List TableLine
-schedule_lines row =
+-- the lines of a BS row's fields, by the end that columns 16 to 21 tell; in a deletion only columns 3, 4 to 9, 10 to 15 and 80 are read
+abbrev pub schedule_lines_by : Option End → List ℕ → List TableLine
+schedule_lines_by to row =
     form_line 3 (transaction_of row)
     ∷ form_line 4 (uid_of row)
     ∷ form_line 10 (from_of row)
-    ∷ line_under (reads_all (transaction_of row)) (form_line 16 (to_of row))
+    ∷ line_under (reads_all (transaction_of row)) (form_line 16 to)
     ∷ line_under (reads_all (transaction_of row)) (form_line 22 (days_of row))
     ∷ line_under (reads_all (transaction_of row)) (form_line 33 (train_of row))
     ∷ form_line 80 (stp_of row)
-    ∷ line_under (reads_all (transaction_of row)) (line EndsBeforeStart 16 (ends_before (from_of row) (to_of row)))
+    ∷ line_under (reads_all (transaction_of row)) (line EndsBeforeStart 16 (ends_before (from_of row) to))
     ∷ []
 
--- what columns 16 to 36 hold
-abbrev pub running_in : List ℕ → Result Running ColumnFault
-running_in row =
-    then (field_at 16 (to_of row)) (λ t.
+abbrev pub schedule_lines : List ℕ → List TableLine
+schedule_lines row = schedule_lines_by (to_of row) row
+
+-- what columns 16 to 36 hold, by that end
+abbrev pub running_by : Option End → List ℕ → Result Running ColumnFault
+running_by to row =
+    then (field_at 16 to) (λ t.
     then (field_at 22 (days_of row)) (λ d.
     then (field_at 33 (train_of row)) (λ i.
     Ok (record { to = t; days = d; train = i }))))
+
+abbrev pub running_in : List ℕ → Result Running ColumnFault
+running_in row = running_by (to_of row) row
 
 -- what is done with the schedule, by the transaction; a deletion asks for no more
 abbrev pub action_in : TransactionType → Result Running ColumnFault → Result Action ColumnFault
@@ -104,21 +112,24 @@ action_in AsNew running = then running (λ r. Ok (New r))
 action_in AsRevised running = then running (λ r. Ok (Revise r))
 action_in AsDeleted running = Ok Delete
 
--- whether a train that runs from a day on runs to that day or a later one
+-- whether a train that runs from a day on lasts to that day
 abbrev pub runs_on : (ℕ × ℕ) → Action → Bool
-runs_on from (New r) = nat_le from.0 r.to.0
-runs_on from (Revise r) = nat_le from.0 r.to.0
+runs_on from (New r) = lasts r.to from.0
+runs_on from (Revise r) = lasts r.to from.0
 runs_on from Delete = true
 
--- what a BS row holds, or its first fault
-abbrev pub schedule_in : List ℕ → Result BasicSchedule ColumnFault
-schedule_in row =
+-- what a BS row holds, by that end, or its first fault
+abbrev pub schedule_by : Option End → List ℕ → Result BasicSchedule ColumnFault
+schedule_by to row =
     then (field_at 3 (transaction_of row)) (λ t.
     then (field_at 4 (uid_of row)) (λ u.
     then (field_at 10 (from_of row)) (λ f.
-    then (action_in t (running_in row)) (λ c.
+    then (action_in t (running_by to row)) (λ c.
     then (field_at 80 (stp_of row)) (λ s.
     cond (runs_on f c) (Ok (record { uid = u; from = f; stp = s; action = c })) (Err (fault_at EndsBeforeStart 16)))))))
+
+abbrev pub schedule_in : List ℕ → Result BasicSchedule ColumnFault
+schedule_in row = schedule_by (to_of row) row
 
 -- BX: the operator
 abbrev pub operator_of : List ℕ → Option (List ℕ)

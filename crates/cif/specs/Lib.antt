@@ -5,4 +5,5 @@ pub mod Reading
 pub mod Texts
 pub mod Contents
 pub mod WholeRows
+pub mod Dated
 pub mod Worked

@@ -1,5 +1,6 @@
 // What rows hold, by their kind.
 use crate::identity::Identity;
+use forms::end::End;
 use forms::letters::{Coverage, Stp};
 
 /// What an HD row holds: the references of an extract, and how much it covers.
@@ -37,11 +38,11 @@ pub enum Action {
     Delete,
 }
 
-/// Until which day and on which days of the week a train runs, and under which identity.
+/// Until when and on which days of the week a train runs, and under which identity.
 #[derive(Clone, Copy, Debug, PartialEq, Eq)]
 pub struct Running {
-    /// The last day that it runs: its day number (1 January 1960 is 0) and its weekday (Monday is 0).
-    pub to: (u16, u8),
+    /// The last day that it runs, or that it has no end.
+    pub to: End,
     /// Whether it runs on each day of the week, Monday first.
     pub days: [bool; 7],
     /// The train identity: four bytes, letters, digits and blanks.

@@ -3,6 +3,7 @@ ghost use Rattle.std.specs.Prelude.{◌≡◌};
 ghost use Rattle.cif.specs.Refusals.{fault_of};
 ghost use Rattle.cif.specs.Reading.{letters_in, content_in, read_in, fault_by_table, LeftmostIsTold};
 ghost use Rattle.cif.specs.WholeRows.{row_bytes, row_identity};
+ghost use Rattle.cif.specs.Dated.{OnlyNoEndIsNew};
 
 use crate::content::Content;
 use crate::identity::Identity;
@@ -53,4 +54,9 @@ pub fn read(bytes: &[u8]) -> Result<Content, RowFault>
 /// Of the fields that lack their form the leftmost is told, for every kind of row.
 pub fn leftmost_is_told()
     ensures { LeftmostIsTold }
+{}
+
+/// Any row but a BS with N or R that says that it has no end is read, or refused, as it was while every schedule had a last day.
+pub fn only_no_end_is_new()
+    ensures { OnlyNoEndIsNew }
 {}

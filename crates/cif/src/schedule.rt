@@ -9,16 +9,16 @@ use crate::content::{Action, BasicSchedule, Running};
 use crate::refusal::{ColumnFault, Refusal};
 use crate::row::Row;
 use forms::letters::{Stp, TransactionType};
-use forms::numbers::{date, uid};
+use forms::numbers::{date, end, uid};
 use forms::text::{Alphabet, days_run, text};
 
 impl Action {
-    // Whether a train that runs from a day on runs to that day or a later one.
+    // Whether a train that runs from a day on lasts to that day.
     fn runs_on(&self, from: (u16, u8)) -> bool
         ensures { result ≡ runs_on from self.now }
     {
         match self {
-            Action::New(running) | Action::Revise(running) => from.0 <= running.to.0,
+            Action::New(running) | Action::Revise(running) => running.to.lasts(from.0),
             Action::Delete => true,
         }
     }
@@ -29,7 +29,7 @@ impl Row {
     fn running(&self) -> Result<Running, ColumnFault>
         ensures { result ≡ running_in (row_bytes self.now) }
     {
-        let to = self.field(16, 21, date)?;
+        let to = self.field(16, 21, end)?;
         let days = self.field(22, 28, days_run)?;
         let train = self.field(33, 36, |bytes| text(Alphabet::Labels, bytes))?;
         Ok(Running { to, days, train })

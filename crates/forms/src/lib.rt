@@ -2,6 +2,7 @@
 //! docs/rows.md has the rules.
 #![tactic(auto)]
 
+pub mod end;
 pub mod letters;
 pub mod numbers;
 pub mod places;

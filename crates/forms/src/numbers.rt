@@ -1,7 +1,9 @@
 // Fields that are written in digits.
 ghost use Rattle.std.specs.Prelude.{◌≡◌, ℕ, ◌+◌, ◌-◌, ◌*◌, ◌^◌, ◌<◌, ◌≤◌, length, IfSome};
 ghost use Rattle.forms.specs.Forms.{number_in, uid_in, years_on, date_in, time_in};
+ghost use Rattle.forms.specs.Ends.{end_in};
 
+use crate::end::End;
 use crate::text::Alphabet;
 
 /// How many UID numbers there are: each UID's number is below this.
@@ -56,6 +58,17 @@ pub fn date(bytes: &[u8]) -> Option<(u16, u8)>
     let month = number(&bytes[2..4])?;
     let day = number(&bytes[4..6])?;
     calendar::date(years_on(yy), month, day)
+}
+
+/// The end that six bytes tell: 999999 is no end, and a date is a last day. Any other bytes lack the form.
+pub fn end(bytes: &[u8]) -> Option<End>
+    ensures { result ≡ end_in bytes.now }
+{
+    if bytes == b"999999".as_slice() {
+        return Some(End::Never);
+    }
+    let (last, _) = date(bytes)?;
+    Some(End::Day(last))
 }
 
 /// The minute of the day of a public time, which is four bytes, HHMM from 0000 to 2359; 0000 means that there is no public time.

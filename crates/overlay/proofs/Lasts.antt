@@ -5,6 +5,7 @@ use Rattle.std.specs.List.{find}
 use Rattle.std.specs.Option.{option_or}
 use Rattle.std.proofs.lemmas.List.{reverse-append}
 use Rattle.std.proofs.lemmas.List.Folds.{find-append}
+use Rattle.forms.specs.declared.end.End.TheVariants.{Day}
 use Rattle.forms.specs.declared.letters.Stp.TheVariants.{Cancellation}
 use Rattle.schedule.specs.declared.key.Key.{Key}
 use Rattle.schedule.specs.declared.transaction.Change.{Change}
@@ -16,7 +17,7 @@ abbrev pub no_change : Change
 no_change =
     New (record {
       key = record { uid = 0; from = 0; stp = Cancellation };
-      to = 0;
+      to = Day 0;
       days = [];
       train = [];
       operator = [];

@@ -1,5 +1,6 @@
 -- A schedule as it is read, row by row.
 use Rattle.std.specs.Prelude.{◌≡◌, ℕ, ◌+◌, Bool, if◌then◌else◌, not, ◌&&◌, List, [], ◌∷◌, nat_le, slice_set}
+use Rattle.forms.specs.declared.end.End.{End}
 use Rattle.cif.specs.declared.content.Location.{Location}
 use Rattle.cif.specs.declared.refusal.Refusal.TheVariants.{TooManyCalls, TooManyVisits}
 use Rattle.cif.specs.Refusals.{TableLine, line}
@@ -13,7 +14,7 @@ use Rattle.schedule.specs.declared.transaction.Transaction.TheVariants.{New as I
 use Rattle.schedule.specs.Records.{kept_calls, visits, no_time, is_cancellation, blank_record}
 
 -- a schedule begins without calls, and with blanks for operator and destination
-abbrev pub begun_with : Key → ℕ → List Bool → List ℕ → Record
+abbrev pub begun_with : Key → End → List Bool → List ℕ → Record
 begun_with key to days train =
     record blank_record { key = key; to = to; days = days; train = train }
 

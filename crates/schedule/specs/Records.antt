@@ -2,8 +2,11 @@
 use Rattle.std.specs.Prelude.{ℕ, ◌+◌, Bool, true, false, if◌then◌else◌, ◌&&◌, List, [], ◌∷◌, take, drop, replicate, None, Option, ◌==◌, nat_le, nat_lt}
 use Rattle.std.specs.List.{list_all}
 use Rattle.std.specs.Str.{bytes_eq}
+use Rattle.forms.specs.declared.end.End.{End}
+use Rattle.forms.specs.declared.end.End.TheVariants.{Day, Never}
 use Rattle.forms.specs.declared.letters.Stp.{Stp}
 use Rattle.forms.specs.declared.letters.Stp.TheVariants.{Cancellation, Permanent}
+use Rattle.forms.specs.Ends.{lasts}
 use Rattle.cif.specs.declared.content.Location.{Location}
 use Rattle.schedule.specs.declared.key.Key.{Key}
 use Rattle.schedule.specs.declared.record.Record.{Record}
@@ -61,7 +64,7 @@ abbrev pub blank_record : Record
 blank_record =
     record {
       key = record { uid = 0; from = 0; stp = Permanent };
-      to = 0;
+      to = Day 0;
       days = replicate 7 false;
       train = 32 ∷ three_blanks;
       operator = two_blanks;
@@ -82,9 +85,14 @@ is_bare_if_cancelled r =
     then r.count == 0 && (bytes_eq r.operator two_blanks && bytes_eq r.destination seven_blanks)
     else true
 
--- the UID number is below 2,600,000, no day is above 36,524, it runs from no later than it runs to
+-- the last day, where there is one, is not above 36,524
+abbrev pub is_numbered : End → Bool
+is_numbered (Day last) = nat_le last 36524
+is_numbered Never = true
+
+-- the UID number is below 2,600,000, no day is above 36,524, it lasts to its first day
 abbrev pub in_range : Record → Bool
-in_range r = nat_lt r.key.uid 2600000 && (nat_le r.key.from r.to && nat_le r.to 36524)
+in_range r = nat_lt r.key.uid 2600000 && (nat_le r.key.from 36524 && (lasts r.to r.key.from && is_numbered r.to))
 
 -- a record that is a schedule: in range, at most 48 kept calls, no TIPLOC in more than two of them,
 -- all places past them filled alike, and bare where it cancels

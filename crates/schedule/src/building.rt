@@ -13,6 +13,7 @@ use crate::schedule::Schedule;
 use crate::transaction::Transaction;
 use cif::content::Location;
 use cif::refusal::{ColumnFault, Refusal};
+use forms::end::End;
 use forms::letters::Stp;
 
 // Whether a location is a kept call: it has a public arrival or a public departure.
@@ -24,8 +25,8 @@ fn is_kept(location: &Location) -> bool
 
 impl Schedule {
     /// The schedule that begins with these, if it is in range: it has no calls, and blanks for operator and destination.
-    /// `to` is its last day, as a day number.
-    pub fn begun(key: Key, to: u16, days: [bool; 7], train: [u8; 4]) -> Option<Schedule>
+    /// `to` is its last day, or that it has no end.
+    pub fn begun(key: Key, to: End, days: [bool; 7], train: [u8; 4]) -> Option<Schedule>
         ensures { let begun = begun_with key to days train in
             MatchOption result (IsFalse (in_range begun)) (λ s. record_of s ≡ begun) }
     {

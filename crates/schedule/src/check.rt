@@ -2,7 +2,7 @@
 ghost use Rattle.std.specs.Prelude.{◌≡◌, ◌≤◌, ◌&&◌, length, take, drop, IsTrue, IsFalse, MatchResult, nat_le};
 ghost use Rattle.std.specs.Str.{bytes_eq};
 ghost use Rattle.std.specs.List.{list_all};
-ghost use Rattle.schedule.specs.Records.{is_at, visits, few_visits, is_filler, is_bare_if_cancelled, is_schedule};
+ghost use Rattle.schedule.specs.Records.{is_at, visits, few_visits, is_filler, in_range, is_bare_if_cancelled, is_schedule};
 ghost use Rattle.schedule.specs.Schedules.{record_of};
 
 use crate::key::Key;
@@ -10,6 +10,7 @@ use crate::record::{CALLS, Record};
 use crate::schedule::{NotASchedule, Schedule};
 use calendar::LAST_DAY;
 use cif::content::Location;
+use forms::end::End;
 use forms::letters::Stp;
 use forms::numbers::UIDS;
 
@@ -77,12 +78,23 @@ impl Record {
             || self.count == 0 && self.operator == *b"  " && self.destination == *b"       "
     }
 
+    // Whether the UID number is one, the schedule lasts to its first day, and no day of it is above the last that has a number.
+    fn is_in_range(&self) -> bool
+        ensures { result ≡ in_range self.now }
+    {
+        let numbered = match self.to {
+            End::Day(last) => last <= LAST_DAY,
+            End::Never => true,
+        };
+        self.key.uid < UIDS && self.key.from <= LAST_DAY && self.to.lasts(self.key.from) && numbered
+    }
+
     /// Whether this is the record of a schedule.
     pub fn is_schedule(&self) -> bool
         ensures { result ≡ is_schedule self.now }
     {
         let count = self.count as usize;
-        if self.key.uid >= UIDS || self.key.from > self.to || self.to > LAST_DAY || count > CALLS {
+        if !self.is_in_range() || count > CALLS {
             return false;
         }
         are_kept_then_filled(&self.calls, count) && self.is_bare_if_cancelled()

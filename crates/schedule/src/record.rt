@@ -1,6 +1,7 @@
 // A schedule as it lies in memory.
 use crate::key::Key;
 use cif::content::Location;
+use forms::end::End;
 
 /// How many calls a schedule keeps at the most.
 pub const CALLS: usize = 48;
@@ -11,8 +12,8 @@ pub const CALLS: usize = 48;
 pub struct Record {
     /// What the schedule is found by.
     pub key: Key,
-    /// The last day that it runs, as a day number: 1 January 1960 is 0. A schedule's is 36,524 at the most.
-    pub to: u16,
+    /// The last day that it runs, which of a schedule is 36,524 at the most, or that it has no end.
+    pub to: End,
     /// Whether it runs on each day of the week, Monday first.
     pub days: [bool; 7],
     /// The train identity: four bytes, letters, digits and blanks.

@@ -5,6 +5,7 @@ ghost use Rattle.schedule.specs.Records.{is_schedule, blank_record};
 use crate::key::Key;
 use crate::record::{CALLS, Record};
 use cif::content::Location;
+use forms::end::End;
 use forms::letters::Stp;
 use std::error::Error;
 use std::fmt;
@@ -38,7 +39,7 @@ impl Schedule {
                 from: 0,
                 stp: Stp::Permanent,
             },
-            to: 0,
+            to: End::Day(0),
             days: [false; 7],
             train: *b"    ",
             operator: *b"  ",

@@ -35,8 +35,8 @@ pub from_small : (r : Record) → is_schedule r ≡ true → r.key.from < 65535
 from_small r v =
     let a = (and_parts (in_range r) _ v).0 in
     let b = (and_parts (ltb r.key.uid 2600000) _ a).1 in
-    let c = and_parts (leb r.key.from r.to) (leb r.to 36524) b in
-    omega (arith, leb-true r.key.from r.to c.0, leb-true r.to 36524 c.1)
+    let c = (and_parts (leb r.key.from 36524) _ b).0 in
+    omega (arith, leb-true r.key.from 36524 c)
 
 -- what the least key not before a probe says
 pub record Next (m : List Record) (probe key : Key) : Type 0 where
