@@ -1,14 +1,15 @@
 -- The lines of one train, by its schedule in force.
-use Rattle.std.proofs.Common.{◌≡◌, ℕ, ◌<◌, ◌≤◌, true, false, leb, List, [], take, sym, refl, ap, ◌∙◌, subst, inl, inr, ⊎_elim, arith}
+use Rattle.std.proofs.Common.{◌≡◌, ℕ, ◌<◌, ◌≤◌, Bool, true, false, leb, List, [], take, sym, refl, ap, ◌∙◌, subst, inl, inr, ⊎_elim, arith}
 use Rattle.std.proofs.lemmas.Bool.{and_parts, leb-true, both_ways}
 use Rattle.forms.specs.declared.letters.Stp.{Stp}
 use Rattle.forms.specs.declared.letters.Stp.TheVariants.{Cancellation, ShortTerm, Overlay, Permanent}
 use Rattle.schedule.specs.declared.record.Record.{Record}
 use Rattle.schedule.specs.Records.{visits, kept_calls, few_visits, in_range, is_cancellation, is_schedule}
-use Rattle.running.specs.Running.{InForce}
-use Rattle.running.proofs.Forces.{one, alone, none_some}
+use Rattle.running.specs.Running.{covering, InForce}
+use Rattle.running.specs.Laws.{SameCandidates}
+use Rattle.running.proofs.Forces.{one, same_force, same_held_candidates, none_some}
 use Rattle.board.specs.declared.line.Line.{Line}
-use Rattle.board.specs.Lines.{line_at, IsLine, LinesOfTrainAlone, InForceHides, CancelledHides}
+use Rattle.board.specs.Lines.{line_at, IsLineBy, IsLine, SameCandidatesSameBoard, LinesOfTrainAlone, InForceHides, CancelledHides}
 use Rattle.board.specs.Filling.{Added, Trained}
 use Rattle.board.proofs.Adds.{line_here, two_visits}
 
@@ -52,14 +53,30 @@ module _ (m : List Record) (station : List ℕ) (day uid : ℕ) (xs : List Line)
     distinct = a.distinct;
   }
 
-pub train_alone : LinesOfTrainAlone
-train_alone m n station day uid same l e i = record {
+-- a line depends on the candidates of its train alone
+same_line : (covers covers' : Record → ℕ → Bool) (m n : List Record) (station : List ℕ) (day : ℕ) (l : Line) → SameCandidates covers covers' m n l.key.uid day
+    → IsLineBy covers m station day l → IsLineBy covers' n station day l
+same_line covers covers' m n station day l same i = record {
   schedule = i.schedule;
-  force = alone m n l.key.uid day (λ k f. same k (f ∙ e)) i.schedule i.force;
+  force = same_force covers covers' m n l.key.uid day same i.schedule i.force;
   runs = i.runs;
   kept = i.kept;
   line = i.line;
 }
+
+pub same_board : SameCandidatesSameBoard
+same_board covers covers' m n station day same lines b = record {
+  ordered = b.ordered;
+  only = λ l o. same_line covers covers' m n station day l (same l.key.uid) (b.only l o);
+  every = λ l i. b.every l (same_line covers' covers n m station day l (turned l.key.uid) i);
+}
+  where
+    turned : (uid : ℕ) → SameCandidates covers' covers n m uid day
+    turned uid r = ((same uid r).1, (same uid r).0)
+
+pub train_alone : LinesOfTrainAlone
+train_alone m n station day uid same l e i =
+    same_line covering covering m n station day l (same_held_candidates m n l.key.uid day (λ k f. same k (f ∙ e))) i
 
 pub hides : InForceHides
 hides m station day uid r f none l e i =

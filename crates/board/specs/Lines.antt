@@ -6,7 +6,8 @@ use Rattle.schedule.specs.declared.key.Key.{Key}
 use Rattle.schedule.specs.declared.record.Record.{Record}
 use Rattle.schedule.specs.Records.{is_at, is_cancellation}
 use Rattle.timetable.specs.Timetables.{schedule_of}
-use Rattle.running.specs.Running.{InForce}
+use Rattle.running.specs.Running.{covering, InForceBy, InForce}
+use Rattle.running.specs.Laws.{SameCandidates}
 use Rattle.board.specs.declared.display.StationDay.{StationDay}
 use Rattle.board.specs.declared.line.LineKey.{LineKey}
 use Rattle.board.specs.declared.line.Line.{Line}
@@ -46,23 +47,38 @@ abbrev pub line_at : List ℕ → Record → ℕ → Option Line
 line_at station r place = option_and_then (line_of station r place) (slice_get r.calls place)
 
 -- a line is one of a kept call of the schedule in force of its train, which is no cancellation
-pub record IsLine (m : List Record) (station : List ℕ) (day : ℕ) (l : Line) : Type 0 where
+pub record IsLineBy (covers : Record → ℕ → Bool) (m : List Record) (station : List ℕ) (day : ℕ) (l : Line) : Type 0 where
   pub schedule : Record
-  pub force : InForce m l.key.uid day schedule
+  pub force : InForceBy covers m l.key.uid day schedule
   pub runs : is_cancellation schedule.key.stp ≡ false
   pub kept : l.key.place < schedule.count
   pub line : line_at station schedule l.key.place ≡ Some l
 
+abbrev pub IsLine : List Record → List ℕ → ℕ → Line → Type 0
+IsLine m station day l = IsLineBy covering m station day l
+
 -- the lines of a board: in order, only such lines, and every such line
-pub record BoardOf (m : List Record) (station : List ℕ) (day : ℕ) (lines : List Line) : Type 0 where
+pub record BoardBy (covers : Record → ℕ → Bool) (m : List Record) (station : List ℕ) (day : ℕ) (lines : List Line) : Type 0 where
   pub ordered : ascending line_before line_key lines ≡ true
-  pub only : (l : Line) → On lines l → IsLine m station day l
-  pub every : (l : Line) → IsLine m station day l → On lines l
+  pub only : (l : Line) → On lines l → IsLineBy covers m station day l
+  pub every : (l : Line) → IsLineBy covers m station day l → On lines l
+
+abbrev pub BoardOf : List Record → List ℕ → ℕ → List Line → Type 0
+BoardOf m station day lines = BoardBy covering m station day lines
 
 -- the lines of a board for the station and day that it has, if it has any
+abbrev pub LinesBy : (Record → ℕ → Bool) → List Record → Option StationDay → List Line → Type 0
+LinesBy covers m (Some s) lines = BoardBy covers m s.station s.day lines
+LinesBy covers m None lines = lines ≡ []
+
 abbrev pub LinesFor : List Record → Option StationDay → List Line → Type 0
-LinesFor m (Some s) lines = BoardOf m s.station s.day lines
-LinesFor m None lines = lines ≡ []
+LinesFor m shown lines = LinesBy covering m shown lines
+
+-- the same candidates, the same board: by any two rules that say which days a schedule covers, and in any two maps
+abbrev pub SameCandidatesSameBoard : Type 0
+SameCandidatesSameBoard =
+    (covers covers' : Record → ℕ → Bool) (m n : List Record) (station : List ℕ) (day : ℕ) → ((uid : ℕ) → SameCandidates covers covers' m n uid day)
+    → (lines : List Line) → BoardBy covers m station day lines → BoardBy covers' n station day lines
 
 -- those rules leave no choice of the lines
 abbrev pub BoardIsOne : Type 0

@@ -1,6 +1,11 @@
 // Laws of boards.
-ghost use Rattle.board.specs.Lines.{BoardIsOne, LinesOfTrainAlone, InForceHides, CancelledHides};
+ghost use Rattle.board.specs.Lines.{SameCandidatesSameBoard, BoardIsOne, LinesOfTrainAlone, InForceHides, CancelledHides};
 ghost use Rattle.board.specs.Strikes.{UnnamedLinesStay};
+
+/// The same candidates, the same board: whatever rule says which days a schedule covers, and in any map.
+pub fn same_candidates_same_board()
+    ensures { SameCandidatesSameBoard }
+{}
 
 /// The rules of a board leave no choice of its lines.
 pub fn board_is_one()

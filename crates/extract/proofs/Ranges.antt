@@ -1,13 +1,14 @@
 -- What a BS row that was read holds is in range.
-use Rattle.std.proofs.Common.{◌≡◌, ℕ, suc, ◌+◌, ◌-◌, ◌*◌, ◌^◌, ◌<◌, ◌≤◌, Bool, true, cond, ◌&&◌, eqb, ltb, leb, List, [], ◌∷◌, length, get_or, drop, Some, None, Ok, Err, Option, Result, sym, refl, ap, ◌∙◌, subst, ⊎_elim, mul-le-mul_right, mul_assoc, mul_comm, pow-suc, arith}
+use Rattle.std.proofs.Common.{◌≡◌, ℕ, suc, ◌+◌, ◌-◌, ◌*◌, ◌^◌, ◌<◌, ◌≤◌, true, ◌&&◌, eqb, ltb, leb, List, [], ◌∷◌, length, get_or, drop, Some, None, Ok, Option, sym, refl, ap, ◌∙◌, subst, ⊎_elim, mul-le-mul_right, mul_assoc, mul_comm, pow-suc, arith}
 use Rattle.std.proofs.lemmas.List.{length-take, length-drop}
 use Rattle.std.proofs.lemmas.Bool.{and_parts, and_from, cases_Bool, cond-true, cond-false, le-leb, lt-ltb, eqb-true}
 use Rattle.std.proofs.lemmas.Bool.Decides.{nat_tests}
 use Rattle.maps.proofs.Maps.{some_none, some_is}
 use Rattle.calendar.specs.Calendar.{exists, day_number, dated}
-use Rattle.forms.specs.declared.letters.Stp.{Stp}
-use Rattle.forms.specs.declared.letters.TransactionType.{TransactionType}
-use Rattle.forms.specs.declared.letters.TransactionType.TheVariants.{New as AsNew, Revise as AsRevised, Delete as AsDeleted}
+use Rattle.std.specs.Option.{option_map}
+use Rattle.forms.specs.declared.end.End.{End}
+use Rattle.forms.specs.declared.end.End.TheVariants.{Day, Never}
+use Rattle.forms.specs.Ends.{lasts, says_no_end, last_day_in, end_in}
 use Rattle.forms.specs.Bytes.{columns, is_digit, is_letter, and_then}
 use Rattle.forms.specs.Forms.{number_after, number_in, uid_in, date_in, years_on}
 use Rattle.forms.proofs.Steps.{digit_small}
@@ -15,11 +16,10 @@ use Rattle.cif.specs.declared.content.BasicSchedule.{BasicSchedule}
 use Rattle.cif.specs.declared.content.Action.{Action}
 use Rattle.cif.specs.declared.content.Action.TheVariants.{New, Revise, Delete}
 use Rattle.cif.specs.declared.content.Running.{Running}
-use Rattle.cif.specs.declared.refusal.Refusal.TheVariants.{EndsBeforeStart}
-use Rattle.cif.specs.declared.refusal.ColumnFault.{ColumnFault}
-use Rattle.cif.specs.Refusals.{fault_at, field_at, then}
-use Rattle.cif.specs.Fields.{transaction_of, uid_of, from_of, to_of, days_of, train_of, stp_of, running_in, action_in, runs_on, schedule_in}
-use Rattle.cif.proofs.Results.{ok_is, err_ok}
+use Rattle.cif.specs.Fields.{to_of, runs_on, schedule_in}
+use Rattle.cif.proofs.Held.{HasEnd, held}
+use Rattle.schedule.specs.Records.{is_numbered, in_range}
+use Rattle.extract.specs.Progress.{begun_by}
 use Rattle.extract.specs.Standings.{range_in}
 
 -- digits after n write a number of so many places
@@ -86,48 +86,30 @@ date_below cs x h =
     of (Some yy) (Some m) None h = absurd (some_none x (sym h))
     of (Some yy) (Some m) (Some d) h = dated_below (years_on yy) m d x h
 
--- the last day of a BS row that was read
-running_below : (row : List ℕ) (r : Running) → running_in row ≡ Ok r → r.to.0 ≤ 36524
-running_below row r h = of (to_of row) (days_of row) (train_of row) (date_below (columns 16 21 row)) h
+-- the end of a BS row that was read, where it is a day, is one that has a number
+end_numbered : (cs : List ℕ) (e : End) → end_in cs ≡ Some e → is_numbered e ≡ true
+end_numbered cs e h =
+    ⊎_elim
+    (λ t. ap is_numbered (sym (some_is Never e (sym (cond-true (says_no_end cs) (Some Never) (last_day_in cs) t) ∙ h))))
+    (λ f. of (date_in cs) (date_below cs) (sym (cond-false (says_no_end cs) (Some Never) (last_day_in cs) f) ∙ h))
+    (cases_Bool (says_no_end cs))
   where
-    of : (t : Option (ℕ × ℕ)) (d : Option (List Bool)) (i : Option (List ℕ)) → ((x : ℕ × ℕ) → t ≡ Some x → x.0 ≤ 36524) → then (field_at 16 t) (λ t. then (field_at 22 d) (λ d. then (field_at 33 i) (λ i. Ok (record { to = t; days = d; train = i })))) ≡ Ok r → r.to.0 ≤ 36524
-    of None d i below h = absurd (err_ok _ r _ refl h)
-    of (Some t) None i below h = absurd (err_ok _ r _ refl h)
-    of (Some t) (Some d) None below h = absurd (err_ok _ r _ refl h)
-    of (Some t) (Some d) (Some i) below h = subst (λ (x : Running). x.to.0 ≤ 36524) (ok_is _ _ r refl h) (below t refl)
+    of : (d : Option (ℕ × ℕ)) → ((x : ℕ × ℕ) → d ≡ Some x → x.0 ≤ 36524) → option_map (λ d. Day d.0) d ≡ Some e → is_numbered e ≡ true
+    of None below h = absurd (some_none e (sym h))
+    of (Some d) below h = ap is_numbered (sym (some_is (Day d.0) e h)) ∙ le-leb d.0 36524 (below d refl)
 
--- the last day of a change that has one
-abbrev end_day : Action → ℕ
-end_day (New r) = r.to.0
-end_day (Revise r) = r.to.0
-end_day Delete = 0
-
--- a change is in range where the train runs on
-range_kept : (u : ℕ) (f : ℕ × ℕ) (s : Stp) (c : Action) → u < 2600000 → end_day c ≤ 36524 → runs_on f c ≡ true → range_in (record { uid = u; from = f; stp = s; action = c }) c ≡ true
-range_kept u f s (New r) l a on = and_from (ltb u 2600000) _ (lt-ltb u 2600000 l) (and_from (leb f.0 r.to.0) _ on (le-leb r.to.0 36524 a))
-range_kept u f s (Revise r) l a on = and_from (ltb u 2600000) _ (lt-ltb u 2600000 l) (and_from (leb f.0 r.to.0) _ on (le-leb r.to.0 36524 a))
-range_kept u f s Delete l a on = refl
+-- the schedule that a BS begins is in range
+begun_range : (b : BasicSchedule) (d : Running) → b.uid < 2600000 → b.from.0 ≤ 36524 → lasts d.to b.from.0 ≡ true → is_numbered d.to ≡ true → in_range (begun_by b d) ≡ true
+begun_range b d u f on e =
+    and_from (ltb b.uid 2600000) _ (lt-ltb b.uid 2600000 u)
+    (and_from (leb b.from.0 36524) _ (le-leb b.from.0 36524 f) (and_from (lasts d.to b.from.0) _ on e))
 
 pub schedule_range : (row : List ℕ) (b : BasicSchedule) → schedule_in row ≡ Ok b → range_in b b.action ≡ true
-schedule_range row b h = of (transaction_of row) (uid_of row) (from_of row) (running_in row) (stp_of row) (uid_below (columns 4 9 row)) (running_below row) h
+schedule_range row b h =
+    let is = held (to_of row) row b h in
+    of b.action (uid_below (columns 4 9 row) b.uid is.number) (date_below (columns 10 15 row) b.from is.first) is.end is.on
   where
-    ended : (u : ℕ) (f : ℕ × ℕ) (s : Stp) (c : Action) → u < 2600000 → end_day c ≤ 36524 → cond (runs_on f c) (Ok (record { uid = u; from = f; stp = s; action = c })) (Err (fault_at EndsBeforeStart 16)) ≡ Ok b → range_in b b.action ≡ true
-    ended u f s c l p h =
-        ⊎_elim
-        (λ on. subst (λ (x : BasicSchedule). range_in x x.action ≡ true) (ok_is _ _ b refl (sym (cond-true _ _ _ on) ∙ h)) (range_kept u f s c l p on))
-        (λ off. absurd (err_ok _ b _ refl (sym (cond-false _ _ _ off) ∙ h)))
-        (cases_Bool (runs_on f c))
-
-    of : (t : Option TransactionType) (u : Option ℕ) (f : Option (ℕ × ℕ)) (run : Result Running ColumnFault) (s : Option Stp) → ((x : ℕ) → u ≡ Some x → x < 2600000) → ((r : Running) → run ≡ Ok r → r.to.0 ≤ 36524)
-        → then (field_at 3 t) (λ t. then (field_at 4 u) (λ u. then (field_at 10 f) (λ f. then (action_in t run) (λ c. then (field_at 80 s) (λ s. cond (runs_on f c) (Ok (record { uid = u; from = f; stp = s; action = c })) (Err (fault_at EndsBeforeStart 16))))))) ≡ Ok b → range_in b b.action ≡ true
-    of None u f run s p q h = absurd (err_ok _ b _ refl h)
-    of (Some t) None f run s p q h = absurd (err_ok _ b _ refl h)
-    of (Some t) (Some u) None run s p q h = absurd (err_ok _ b _ refl h)
-    of (Some AsNew) (Some u) (Some f) (Err e) s p q h = absurd (err_ok _ b _ refl h)
-    of (Some AsNew) (Some u) (Some f) (Ok r) None p q h = absurd (err_ok _ b _ refl h)
-    of (Some AsNew) (Some u) (Some f) (Ok r) (Some s) p q h = ended u f s (New r) (p u refl) (q r refl) h
-    of (Some AsRevised) (Some u) (Some f) (Err e) s p q h = absurd (err_ok _ b _ refl h)
-    of (Some AsRevised) (Some u) (Some f) (Ok r) None p q h = absurd (err_ok _ b _ refl h)
-    of (Some AsRevised) (Some u) (Some f) (Ok r) (Some s) p q h = ended u f s (Revise r) (p u refl) (q r refl) h
-    of (Some AsDeleted) (Some u) (Some f) run None p q h = absurd (err_ok _ b _ refl h)
-    of (Some AsDeleted) (Some u) (Some f) run (Some s) p q h = ended u f s Delete (p u refl) (omega arith) h
+    of : (c : Action) → b.uid < 2600000 → b.from.0 ≤ 36524 → HasEnd (to_of row) c → runs_on b.from c ≡ true → range_in b c ≡ true
+    of (New d) u f e on = begun_range b d u f on (end_numbered (columns 16 21 row) d.to e)
+    of (Revise d) u f e on = begun_range b d u f on (end_numbered (columns 16 21 row) d.to e)
+    of Delete u f e on = refl

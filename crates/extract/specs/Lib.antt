@@ -1,4 +1,5 @@
 pub mod Stages
 pub mod Progress
 pub mod Judging
+pub mod Dated
 pub mod Standings

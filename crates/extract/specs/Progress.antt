@@ -41,7 +41,7 @@ key_in b = record { uid = b.uid; from = b.from.0; stp = b.stp }
 
 -- the schedule that a BS row begins
 abbrev pub begun_by : BasicSchedule → Days → Record
-begun_by b d = begun_with (key_in b) d.to.0 d.days d.train
+begun_by b d = begun_with (key_in b) d.to d.days d.train
 
 -- the transaction that a BS row asks for
 abbrev pub change_by : BasicSchedule → Action → Change

@@ -46,11 +46,11 @@ pub(crate) fn is_brief(b: &BasicSchedule) -> bool
 
 // The schedule that a BS row begins, if it is in range.
 fn begun(key: Key, days: Running) -> Option<Schedule>
-    ensures { MatchOption result (in_range (begun_with key days.to.0 days.days days.train) ≡ false)
-        (λ s. s.fields ≡ begun_with key days.to.0 days.days days.train) }
+    ensures { MatchOption result (in_range (begun_with key days.to days.days days.train) ≡ false)
+        (λ s. s.fields ≡ begun_with key days.to days.days days.train) }
 {
     let Running { to, days, train } = days;
-    Schedule::begun(key, to.0, days, train)
+    Schedule::begun(key, to, days, train)
 }
 
 // The transaction that a BS row asks for, if it is in range.

@@ -87,7 +87,7 @@ fn begin(basic: &BasicSchedule) -> (Draft, Option<StoreRequest>) {
         Action::Delete => return (Draft::new(), Some(StoreRequest::Remove(key))),
         Action::New(days) | Action::Revise(days) => days,
     };
-    let Some(schedule) = Schedule::begun(key, days.to.0, days.days, days.train) else {
+    let Some(schedule) = Schedule::begun(key, days.to, days.days, days.train) else {
         return (Draft::new(), Some(StoreRequest::Unfit(key)));
     };
     match basic.stp {

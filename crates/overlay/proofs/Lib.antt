@@ -6,3 +6,4 @@ pub mod Leasts
 pub mod Trains
 pub mod Permitted
 pub mod Settled
+pub mod Ended

@@ -1,6 +1,8 @@
 -- Why at most one schedule is in force, and which schedules matter.
-use Rattle.std.proofs.Common.{◌≡◌, ℕ, true, false, leb, List, Some, None, sym, ap, ◌∙◌, ⊎_elim, arith}
+use Rattle.std.proofs.Common.{◌≡◌, ℕ, false, leb, List, Some, None, sym, refl, ap, ◌∙◌, ⊎_elim, arith}
 use Rattle.std.proofs.lemmas.Bool.{le-leb, and_from, both_ways}
+use Rattle.forms.specs.declared.end.End.{End}
+use Rattle.forms.specs.Ends.{lasts}
 use Rattle.forms.specs.declared.letters.Stp.{Stp}
 use Rattle.schedule.specs.declared.key.Key.{Key}
 use Rattle.schedule.specs.declared.record.Record.{Record}
@@ -10,7 +12,7 @@ use Rattle.schedule.specs.Orders.{same_rank}
 use Rattle.timetable.specs.Timetables.{schedule_of, without_key, IsMap}
 use Rattle.timetable.proofs.Keys.{keep}
 use Rattle.running.specs.Running.{Holds, Candidate, Outranks, InForce, covering}
-use Rattle.running.specs.Laws.{OneInForce, TrainAlone, OnlyOnItsDays}
+use Rattle.running.specs.Laws.{SameCandidates, SameCandidatesSameForce, NoEndIsCandidate, OneInForce, TrainAlone, OnlyOnItsDays}
 
 pub some_is : {X : Type 0} (x y : X) → Some x ≡ Some y → x ≡ y
 some_is x y h = cc
@@ -36,20 +38,23 @@ one m uid day r s p q =
     same_held m r s p.candidate.there q.candidate.there
     (same_key (p.candidate.train ∙ sym q.candidate.train) b.1 (same_rank r.key.stp s.key.stp b.0))
 
+-- what comes first depends on the candidates alone
+pub same_force : SameCandidatesSameForce
+same_force covers covers' m n uid day same r p = record { candidate = (same r).0 p.candidate; first = λ s d. p.first s ((same s).1 d) }
+
 -- a candidate in one map is one in another that has the same schedule under its key
 moved : (m n : List Record) (uid day : ℕ) (r : Record) → schedule_of m (key_of r) ≡ schedule_of n (key_of r) → Candidate m uid day r → Candidate n uid day r
-moved m n uid day r e c = record { there = sym e ∙ c.there; train = c.train; begun = c.begun; lasts = c.lasts; runs = c.runs }
+moved m n uid day r e c = record { there = sym e ∙ c.there; train = c.train; on = c.on }
+
+-- a train has the same candidates in maps that have the same schedules of it
+pub same_held_candidates : (m n : List Record) (uid day : ℕ) → ((k : Key) → k.uid ≡ uid → schedule_of m k ≡ schedule_of n k) → SameCandidates covering covering m n uid day
+same_held_candidates m n uid day same s = (
+    (λ c. moved m n uid day s (same (key_of s) c.train) c),
+    (λ c. moved n m uid day s (sym (same (key_of s) c.train)) c),
+  )
 
 pub alone : TrainAlone
-alone m n uid day same r p = record {
-  candidate = moved m n uid day r (same (key_of r) p.candidate.train) p.candidate;
-  first = λ s c. p.first s (moved n m uid day s (sym (same (key_of s) c.train)) c);
-}
-
-pub covers_it : (m : List Record) (uid day : ℕ) (r : Record) → Candidate m uid day r → covering r day ≡ true
-covers_it m uid day r c =
-    and_from (leb r.key.from day) _ (le-leb r.key.from day c.begun)
-    (and_from (leb day r.to) _ (le-leb day r.to c.lasts) c.runs)
+alone m n uid day same r p = same_force covering covering m n uid day (same_held_candidates m n uid day same) r p
 
 pub none_some : {X : Type 0} (x : X) → None ≡ Some x → ⊥
 none_some x h = let z : ◌≡◌ {A = ℕ} 0 1 = cc in omega arith
@@ -58,7 +63,7 @@ module _ (m : List Record) (uid day : ℕ) (c : Record) (is : IsMap m) (off : co
   -- a candidate has another key than a schedule that does not cover the day
   apart : (s : Record) → Candidate m uid day s → key_of c ≡ key_of s → ⊥
   apart s p e =
-      both_ways (covering c day) off (ap (λ (r : Record). covering r day) (same_held m c s held p.there e) ∙ covers_it m uid day s p)
+      both_ways (covering c day) off (ap (λ (r : Record). covering r day) (same_held m c s held p.there e) ∙ p.on)
 
   gone : (s : Record) → Candidate (without_key m (key_of c)) uid day s → key_of c ≡ key_of s → ⊥
   gone s p e = none_some s (sym (keep.removed m (key_of c) is) ∙ (ap (schedule_of (without_key m (key_of c))) e ∙ p.there))
@@ -71,9 +76,18 @@ module _ (m : List Record) (uid day : ℕ) (c : Record) (is : IsMap m) (off : co
 
   unchanged : (r : Record) → (InForce m uid day r → InForce (without_key m (key_of c)) uid day r) × (InForce (without_key m (key_of c)) uid day r → InForce m uid day r)
   unchanged r = (
-    (λ p. record { candidate = away r p.candidate; first = λ s q. p.first s (back s q) }),
-    (λ p. record { candidate = back r p.candidate; first = λ s q. p.first s (away s q) }),
+    same_force covering covering m (without_key m (key_of c)) uid day (λ s. (away s, back s)) r,
+    same_force covering covering (without_key m (key_of c)) m uid day (λ s. (back s, away s)) r,
   )
+
+-- one with no end lasts to every day
+pub no_end_stands : NoEndIsCandidate
+no_end_stands m day r held never begun runs =
+    record {
+      there = held;
+      train = refl;
+      on = and_from (leb r.key.from day) _ (le-leb r.key.from day begun) (and_from (lasts r.to day) _ (ap (λ (e : End). lasts e day) never) runs);
+    }
 
 pub own_days : OnlyOnItsDays
 own_days m uid day c is off held r = unchanged m uid day c is off held r

@@ -3,3 +3,4 @@ pub mod Tests
 pub mod Trains
 pub mod Turns
 pub mod Walks
+pub mod Dated

@@ -10,9 +10,8 @@ use Rattle.timetable.specs.Timetables.{schedule_of}
 use Rattle.running.specs.Running.{Holds, Candidate, InForce, covering}
 use Rattle.running.specs.Walking.{outranking}
 use Rattle.running.specs.Worked.{Worked}
-use Rattle.running.proofs.Forces.{some_is, none_some, covers_it}
+use Rattle.running.proofs.Forces.{some_is, none_some}
 use Rattle.running.proofs.Walks.{outranking_true}
-use Rattle.running.proofs.Turns.{is_candidate}
 
 -- every schedule of the train that covers the day passes a test
 passing : (Record → Bool) → ℕ → ℕ → List Record → Bool
@@ -32,11 +31,11 @@ passes test uid day (y ∷ ys) k s p h c =
     (cases_Bool (same key_before (key_of y) k))
 
 counts : (m : List Record) (uid day : ℕ) (s : Record) → Candidate m uid day s → (eqb s.key.uid uid && covering s day) ≡ true
-counts m uid day s c = and_from (eqb s.key.uid uid) (covering s day) (eq-eqb s.key.uid uid c.train) (covers_it m uid day s c)
+counts m uid day s c = and_from (eqb s.key.uid uid) (covering s day) (eq-eqb s.key.uid uid c.train) c.on
 
 by_test : (m : List Record) (uid day : ℕ) (r : Record) → Holds m r → r.key.uid ≡ uid → covering r day ≡ true → passing (outranking r) uid day m ≡ true → InForce m uid day r
 by_test m uid day r held train c p = record {
-  candidate = is_candidate m uid day r held train c;
+  candidate = record { there = held; train = train; on = c };
   first = λ s d. outranking_true r s (passes (outranking r) uid day m (key_of s) s p d.there (counts m uid day s d));
 }
 
@@ -46,13 +45,18 @@ none_by_test m uid day p s d = both_ways false refl (passes (λ _. false) uid da
 pub worked : Worked
 unfolding passing
 worked = record {
-  fields = record { dates = refl; uids = refl; times = refl };
-  rows = record { numbers = refl; origins = refl; arrivals = refl; departures = refl; termini = refl };
+  fields = record { dates = refl; ends = refl; uids = refl; times = refl };
+  rows = record { numbers = refl; ends = refl; starts = refl; changes = refl; unread = refl; origins = refl; arrivals = refl; departures = refl; termini = refl };
   days = refl;
   monday = by_test _ _ _ _ refl refl refl refl;
   wednesday = by_test _ _ _ _ refl refl refl refl;
   saturday = none_by_test _ _ _ refl;
   next_monday = by_test _ _ _ _ refl refl refl refl;
   later_start = by_test _ _ _ _ refl refl refl refl;
+  no_end = by_test _ _ _ _ refl refl refl refl;
+  first_day = by_test _ _ _ _ refl refl refl refl;
+  ended_overlay = by_test _ _ _ _ refl refl refl refl;
+  last_first_day = by_test _ _ _ _ refl refl refl refl;
+  unended_overlay = by_test _ _ _ _ refl refl refl refl;
   short_term = by_test _ _ _ _ refl refl refl refl;
 }

@@ -1,6 +1,6 @@
 -- One turn of the walk over the keys of a train, and its end.
 use Rattle.std.proofs.Common.{◌≡◌, ℕ, Bool, true, false, cond, ◌<◌, ◌&&◌, leb, ◌⊎◌, List, Some, None, Option, MatchOption, sym, refl, ap, ◌∙◌, subst, inl, inr, ⊎_elim, arith}
-use Rattle.std.proofs.lemmas.Bool.{and_parts, leb-true, cases_Bool, both_ways, cond-true, cond-false}
+use Rattle.std.proofs.lemmas.Bool.{and_parts, cases_Bool, both_ways, cond-true, cond-false}
 use Rattle.std.proofs.lemmas.Bool.Decides.{nat_tests}
 use Rattle.schedule.specs.declared.key.Key.{Key}
 use Rattle.schedule.specs.declared.record.Record.{Record}
@@ -12,15 +12,8 @@ use Rattle.timetable.specs.Timetables.{schedule_of}
 use Rattle.timetable.proofs.Nexts.{Next, has_held, found_key}
 use Rattle.running.specs.Running.{Holds, Candidate, Outranks, InForce, covering}
 use Rattle.running.specs.Walking.{outranking, takes, record_in}
-use Rattle.running.proofs.Forces.{same_held, covers_it, some_is, none_some}
+use Rattle.running.proofs.Forces.{same_held, some_is, none_some}
 use Rattle.running.proofs.Walks.{Walked, held_has, outranking_true, outranking_false, outranks_trans, outranks_self}
-
--- a schedule of the train that covers the day is a candidate
-pub is_candidate : (m : List Record) (uid day : ℕ) (r : Record) → Holds m r → r.key.uid ≡ uid → covering r day ≡ true → Candidate m uid day r
-is_candidate m uid day r held train h =
-    let a = and_parts (leb r.key.from day) _ h in
-    let b = and_parts (leb day r.to) _ a.1 in
-    record { there = held; train = train; begun = leb-true _ _ a.0; lasts = leb-true _ _ b.0; runs = b.1 }
 
 not_begun : (r : Record) (d : ℕ) → d < r.key.from → leb r.key.from d ≡ false
 not_begun r d l = grind (arith, nat_tests)
@@ -51,11 +44,11 @@ module _ (m : List Record) (uid day : ℕ) (probe key nxt : Key) (h : Record) (b
       (cases_Bool (key_before (key_of s) probe))
 
   here_covers : (s : Record) → Candidate m uid day s → s ≡ h → covering h day ≡ true
-  here_covers s c e = sym (ap (λ (r : Record). covering r day) e) ∙ covers_it m uid day s c
+  here_covers s c e = sym (ap (λ (r : Record). covering r day) e) ∙ c.on
 
   taken : takes h day best ≡ true → Walked m uid day nxt (Some h)
   taken t = record {
-    has = λ b e. subst (λ (r : Record). Candidate m uid day r) (some_is h b e) (is_candidate m uid day h there (ap (λ (k : Key). k.uid) (found_key m key h is) ∙ train) (covers_taken h day best t));
+    has = λ b e. subst (λ (r : Record). Candidate m uid day r) (some_is h b e) (record { there = there; train = ap (λ (k : Key). k.uid) (found_key m key h is) ∙ train; on = covers_taken h day best t });
     first = λ b e s c k. subst (λ (r : Record). Outranks r s) (some_is h b e)
         (⊎_elim
         (λ old. over best refl t s c old)

@@ -3,21 +3,23 @@ use Rattle.std.specs.Prelude.{◌≡◌, ℕ, Bool, List, [], ◌∷◌, map, So
 use Rattle.std.specs.Option.{option_map}
 use Rattle.forms.specs.declared.letters.Stp.{Stp}
 use Rattle.forms.specs.Letters.{stp_in}
+use Rattle.forms.specs.declared.end.End.{End}
 use Rattle.forms.specs.Forms.{uid_in, date_in, days_run_in}
+use Rattle.forms.specs.Ends.{end_in}
 use Rattle.forms.specs.Laws.{Worked as Fields}
 use Rattle.cif.specs.Worked.{Worked as RowCases}
 use Rattle.schedule.specs.declared.record.Record.{Record}
 use Rattle.running.specs.Running.{Candidate, InForce}
 
--- the schedule of a UID, an STP letter, a first and a last day and days run, as far as it matters to what is in force
-abbrev pub as_read : Option ℕ → Option Stp → Option (ℕ × ℕ) → Option (ℕ × ℕ) → Option (List Bool) → Option Record
+-- the schedule of a UID, an STP letter, a first day, an end and days run, as far as it matters to what is in force
+abbrev pub as_read : Option ℕ → Option Stp → Option (ℕ × ℕ) → Option End → Option (List Bool) → Option Record
 as_read (Some uid) (Some stp) (Some from) (Some to) (Some days) =
-    Some (record { key = record { uid = uid; from = from.0; stp = stp }; to = to.0; days = days; train = []; operator = []; destination = []; calls = []; count = 0 })
+    Some (record { key = record { uid = uid; from = from.0; stp = stp }; to = to; days = days; train = []; operator = []; destination = []; calls = []; count = 0 })
 as_read _ _ _ _ _ = None
 
--- a schedule of the train C12345, by the texts of STP letter, first and last day and days run
+-- a schedule of the train C12345, by the texts of STP letter, first day, end and days run
 abbrev pub schedule_by : List ℕ → List ℕ → List ℕ → List ℕ → Option Record
-schedule_by letter from to days = as_read (uid_in (codes "C12345")) (stp_in (slice_index letter 0)) (date_in from) (date_in to) (days_run_in days)
+schedule_by letter from to days = as_read (uid_in (codes "C12345")) (stp_in (slice_index letter 0)) (date_in from) (end_in to) (days_run_in days)
 
 -- P from 231211 to 240531 and O from 240304 to 240308 on Mondays to Fridays, C on the Wednesday 240306
 abbrev pub permanent : Option Record
@@ -35,6 +37,23 @@ later = schedule_by (codes "P") (codes "240226") (codes "240531") (codes "111110
 
 abbrev pub short : Option Record
 short = schedule_by (codes "N") (codes "240304") (codes "240308") (codes "1111100")
+
+-- a permanent schedule until further notice, an overlay of one day, and a new short-term train that begins on the last day that has a
+-- number; a permanent schedule of two days, and an overlay until further notice
+abbrev pub unended : Option Record
+unended = schedule_by (codes "P") (codes "591229") (codes "999999") (codes "1111111")
+
+abbrev pub one_day : Option Record
+one_day = schedule_by (codes "O") (codes "591230") (codes "591230") (codes "1111111")
+
+abbrev pub on_last_day : Option Record
+on_last_day = schedule_by (codes "N") (codes "591231") (codes "999999") (codes "1111111")
+
+abbrev pub two_days : Option Record
+two_days = schedule_by (codes "P") (codes "591229") (codes "591230") (codes "1111111")
+
+abbrev pub overlay_on : Option Record
+overlay_on = schedule_by (codes "O") (codes "591230") (codes "999999") (codes "1111111")
 
 -- the map of some schedules, if each was read
 abbrev pub map_of : List (Option Record) → Option (List Record)
@@ -75,4 +94,9 @@ pub record Worked : Type 0 where
   pub saturday : NoneInForce week (codes "240309")
   pub next_monday : IsInForce week (codes "240311") permanent
   pub later_start : IsInForce (map_of (permanent ∷ later ∷ [])) (codes "240311") later
+  pub no_end : IsInForce (map_of (unended ∷ [])) (codes "591231") unended
+  pub first_day : IsInForce (map_of (unended ∷ one_day ∷ on_last_day ∷ [])) (codes "591229") unended
+  pub ended_overlay : IsInForce (map_of (unended ∷ one_day ∷ on_last_day ∷ [])) (codes "591230") one_day
+  pub last_first_day : IsInForce (map_of (unended ∷ one_day ∷ on_last_day ∷ [])) (codes "591231") on_last_day
+  pub unended_overlay : IsInForce (map_of (two_days ∷ overlay_on ∷ [])) (codes "591231") overlay_on
   pub short_term : IsInForce (map_of (permanent ∷ short ∷ overlay ∷ [])) (codes "240304") short

@@ -16,8 +16,8 @@ use timetable::Timetable;
 fn covers(fields: &Record, day: u16) -> bool
     ensures { result ≡ covering fields.now day }
 {
-    let weekday = (day as usize + 4) % 7;
-    fields.key.from <= day && day <= fields.to && fields.days[weekday]
+    let weekday = calendar::weekday(day) as usize;
+    fields.key.from <= day && fields.to.lasts(day) && fields.days[weekday]
 }
 
 // Whether a schedule outranks another.

@@ -1,5 +1,21 @@
 // Laws of what is in force.
-ghost use Rattle.running.specs.Laws.{OneInForce, TrainAlone, OnlyOnItsDays};
+ghost use Rattle.running.specs.Dated.{SameCandidatesWhereAllEnd};
+ghost use Rattle.running.specs.Laws.{SameCandidatesSameForce, NoEndIsCandidate, OneInForce, TrainAlone, OnlyOnItsDays};
+
+/// The same candidates, the same schedule in force: any two ways of saying which schedules are candidates.
+pub fn same_candidates_same_force()
+    ensures { SameCandidatesSameForce }
+{}
+
+/// A schedule with no end is a candidate on every day with its weekday from its first on.
+pub fn no_end_is_candidate()
+    ensures { NoEndIsCandidate }
+{}
+
+/// In a map whose schedules all have a last day, the candidates are those that they were while every schedule had one.
+pub fn same_candidates_where_all_end()
+    ensures { SameCandidatesWhereAllEnd }
+{}
 
 /// At most one schedule of a train is in force on a day.
 pub fn one_in_force()

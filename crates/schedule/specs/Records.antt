@@ -105,5 +105,4 @@ is_schedule r =
 
 -- every record of a list is a schedule
 abbrev pub every_schedule : List Record → Bool
-every_schedule [] = true
-every_schedule (r ∷ rs) = is_schedule r && every_schedule rs
+every_schedule rs = list_all is_schedule rs
