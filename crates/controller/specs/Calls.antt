@@ -78,14 +78,18 @@ board_lines _ slots capacity = []
 abbrev pub confirm_lines : Standing → ℕ → List TableLine
 confirm_lines s slots = line OutOfPlace 0 (not (is_complete s.extract.stage)) ∷ slot_lines slots s.store.capacity
 
--- THE TABLE OF REFUSALS, in the order of its lines, over what a call is judged by and the board's line slots
-abbrev pub refusals : Call → Standing → ℕ → List TableLine
-refusals call s slots =
+-- THE TABLE OF REFUSALS, in the order of its lines, over what a call is judged by and the board's line slots, and over the lines of a
+-- row's fields and what it holds
+abbrev pub refusals_by : (List ℕ → List TableLine) → (List ℕ → Option Content) → Call → Standing → ℕ → List TableLine
+refusals_by fields holds call s slots =
     on_row call row_lines  -- 1 to 3: length, bytes, identity
     ++ (line OutOfPlace (place_column call) (is_out_of_place call s.extract.stage)  -- 4
-    ∷ (on_row call (λ row. field_lines_in (identity_in row) row)  -- 5 and 6: forms of the fields, order of the days
-    ++ (on_row call (λ row. held_lines s (value_in (read_in row)))  -- 7 to 13: references, keys, calls, rows, room
+    ∷ (on_row call fields  -- 5 and 6: forms of the fields, order of the days
+    ++ (on_row call (λ row. held_lines s (holds row))  -- 7 to 13: references, keys, calls, rows, room
     ++ board_lines call slots s.store.capacity)))  -- 14 to 18: station and day, line slots, a page
+
+abbrev pub refusals : Call → Standing → ℕ → List TableLine
+refusals call s slots = refusals_by (λ row. field_lines_in (identity_in row) row) (λ row. value_in (read_in row)) call s slots
 
 -- a fault is told with the row's identity and number, or with blanks and 0 where there is no row
 abbrev pub told_at : Option (List ℕ) → ℕ → ColumnFault → ExtractFault

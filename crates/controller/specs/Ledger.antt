@@ -6,7 +6,7 @@ use Rattle.schedule.specs.Records.{seven_blanks}
 use Rattle.timetable.specs.Timetables.{Meaning}
 use Rattle.overlay.specs.Overlays.{done_all}
 use Rattle.overlay.specs.Laws.{of_train}
-use Rattle.extract.specs.Progress.{progress_of, transactions_of}
+use Rattle.extract.specs.Progress.{Progress, progress_of, transactions_of}
 use Rattle.extract.specs.Judging.{Standing}
 use Rattle.board.specs.declared.display.StationDay.{StationDay}
 use Rattle.board.specs.declared.line.Line.{Line}
@@ -38,14 +38,13 @@ with_row ℓ row = record ℓ { rows = ℓ.rows ++ row ∷ [] }
 abbrev pub without_rows : Ledger → Ledger
 without_rows ℓ = record ℓ { rows = [] }
 
--- the transactions of the rows put after the confirmed ones, their current reference in force, and the rows dropped
+-- the transactions of the rows put after the confirmed ones, their current reference in force, and the rows dropped, by what the rows
+-- come to
+abbrev pub with_progress : Ledger → Progress → Ledger
+with_progress ℓ p = record ℓ { rows = []; confirmed = ℓ.confirmed ++ p.changes; reference = p.current }
+
 abbrev pub with_confirmed : Ledger → Ledger
-with_confirmed ℓ =
-    record ℓ {
-      rows = [];
-      confirmed = ℓ.confirmed ++ transactions_of ℓ.rows;
-      reference = (progress_of ℓ.rows).current;
-    }
+with_confirmed ℓ = with_progress ℓ (progress_of ℓ.rows)
 
 -- station and day set
 abbrev pub with_shown : Ledger → List ℕ → ℕ → Ledger

@@ -58,13 +58,13 @@ way_locations (CR ∷ rows) = way_locations rows
 abbrev pub locations_of : ScheduleRows → List Location
 locations_of r = r.origin ∷ way_locations r.way ++ r.terminus ∷ []
 
--- a schedule with the key, last day, days run and train identity of its BS, and with an operator, a destination and kept calls;
+-- a schedule with the key, end, days run and train identity of its BS, and with an operator, a destination and kept calls;
 -- its places past these are filled
 abbrev pub schedule_with : BasicSchedule → Days → List ℕ → List ℕ → List Location → Record
 schedule_with b d operator destination calls =
     record {
       key = key_in b;
-      to = d.to.0;
+      to = d.to;
       days = d.days;
       train = d.train;
       operator = operator;

@@ -1,5 +1,6 @@
 -- A worked extract: rows that are taken, and the transactions that they come to.
 use Rattle.std.specs.Prelude.{◌≡◌, ℕ, ◌-◌, true, false, List, [], ◌∷◌, ◌++◌, length, replicate, codes, Some, None, Option}
+use Rattle.forms.specs.declared.end.End.TheVariants.{Day}
 use Rattle.forms.specs.declared.letters.Stp.TheVariants.{Permanent, Cancellation}
 use Rattle.cif.specs.declared.content.Location.{Location}
 use Rattle.schedule.specs.declared.record.Record.{Record}
@@ -46,7 +47,7 @@ abbrev pub worked_schedule : Record
 worked_schedule =
     record {
       key = record { uid = 212345; from = 23355; stp = Permanent };
-      to = 23527;
+      to = Day 23527;
       days = true ∷ true ∷ true ∷ true ∷ true ∷ false ∷ false ∷ [];
       train = codes "1A23";
       operator = codes "VT";
@@ -64,7 +65,7 @@ abbrev pub worked_cancellation : Record
 worked_cancellation =
     record {
       key = record { uid = 212345; from = 23441; stp = Cancellation };
-      to = 23441;
+      to = Day 23441;
       days = false ∷ false ∷ true ∷ false ∷ false ∷ false ∷ false ∷ [];
       train = codes "1A23";
       operator = two_blanks;
