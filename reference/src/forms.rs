@@ -51,6 +51,42 @@ impl Form for Date {
     }
 }
 
+/// The last day that a train runs, or none where it runs until further notice.
+#[derive(Clone, Copy, Debug, PartialEq, Eq)]
+pub enum End {
+    Day(Date),
+    Never,
+}
+
+impl End {
+    /// The digits that stand for no end.
+    const NEVER: &[u8; 6] = b"999999";
+
+    /// Whether a schedule with this end lasts to the day: its last day is that or a later one, or
+    /// it has none.
+    pub fn lasts_to(self, day: Date) -> bool {
+        self.day().is_none_or(|last| day <= last)
+    }
+
+    /// The last day, if there is one.
+    pub fn day(self) -> Option<Date> {
+        match self {
+            End::Day(last) => Some(last),
+            End::Never => None,
+        }
+    }
+}
+
+/// `999999`, or a date.
+impl Form for End {
+    fn read(bytes: &[u8]) -> Option<End> {
+        if bytes == End::NEVER {
+            return Some(End::Never);
+        }
+        Date::read(bytes).map(End::Day)
+    }
+}
+
 /// Seven of `0` or `1`, Monday first.
 #[derive(Clone, Copy, Debug, PartialEq, Eq)]
 pub struct DaysRun(pub [bool; 7]);
@@ -208,6 +244,38 @@ impl Form for StpLetter {
             b"O" => Some(StpLetter::Overlay),
             b"P" => Some(StpLetter::Permanent),
             _ => None,
+        }
+    }
+}
+
+#[cfg(test)]
+mod tests {
+    use super::*;
+
+    #[test]
+    fn ends() {
+        let day = |number| Some(End::Day(Date::at_number(number)));
+        assert_eq!(End::read(b"999999"), Some(End::Never));
+        assert_eq!(End::read(b"240531"), day(23_527));
+        assert_eq!(End::read(b"600101"), day(0));
+        assert_eq!(End::read(b"591231"), day(36_524));
+        for none in [
+            b"999998", b"999990", b"899999", b"99999 ", b" 99999", b"999 99", b"990999", b"991299",
+            b"999900", b"000000", b"      ", b"240230",
+        ] {
+            assert_eq!(End::read(none), None);
+        }
+        assert_eq!(Date::read(b"999999"), None);
+    }
+
+    #[test]
+    fn how_long_it_lasts() {
+        let lasts = |end: End, number| end.lasts_to(Date::at_number(number));
+        let end = End::Day(Date::at_number(23_527));
+        assert!(lasts(end, 0) && lasts(end, 23_526) && lasts(end, 23_527));
+        assert!(!lasts(end, 23_528) && !lasts(end, 36_524));
+        for number in [0, 1, 23_528, 36_523, 36_524] {
+            assert!(lasts(End::Never, number));
         }
     }
 }

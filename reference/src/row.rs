@@ -4,7 +4,7 @@
 use crate::calendar::Date;
 use crate::fields::Fields;
 use crate::forms::{
-    DaysRun, ExtractKind, FileReference, Label, LastReference, PublicTime, StpLetter, Suffix,
+    DaysRun, End, ExtractKind, FileReference, Label, LastReference, PublicTime, StpLetter, Suffix,
     Tiploc, Transaction, Uid,
 };
 use crate::identity::Identity;
@@ -48,7 +48,7 @@ pub enum Change {
 
 #[derive(Clone, Debug, PartialEq, Eq)]
 pub struct Running {
-    pub last: Date,
+    pub end: End,
     pub days: DaysRun,
     pub identity: Label,
 }
@@ -146,8 +146,8 @@ impl Header {
 }
 
 impl Schedule {
-    /// A schedule that is new or revised must not run from a later day than it runs to;
-    /// that is looked at only when every field has its form.
+    /// A schedule that is new or revised must last to its first day; that is looked at only when
+    /// every field has its form.
     fn read(fields: &Fields) -> Result<Schedule, Refusal> {
         let transaction = fields.letter(3)?;
         let uid = fields.field(4, 9)?;
@@ -159,7 +159,7 @@ impl Schedule {
         };
         let stp = fields.letter(80)?;
         match &change {
-            Change::New(running) | Change::Revised(running) if first > running.last => {
+            Change::New(running) | Change::Revised(running) if !running.end.lasts_to(first) => {
                 Err(fields.refused(Reason::Order, 16))
             }
             _ => Ok(Schedule {
@@ -175,7 +175,7 @@ impl Schedule {
 impl Running {
     fn read(fields: &Fields) -> Result<Running, Refusal> {
         Ok(Running {
-            last: fields.field(16, 21)?,
+            end: fields.field(16, 21)?,
             days: fields.field(22, 28)?,
             identity: fields.field(33, 36)?,
         })
@@ -219,5 +219,63 @@ impl Place {
             tiploc: fields.field(3, 9)?,
             suffix: fields.letter(10)?,
         })
+    }
+}
+
+#[cfg(test)]
+mod tests {
+    use super::*;
+
+    /// What the report tells of a BS row with these columns 3 to 28.
+    fn told(columns: &str) -> String {
+        let row = format!("{:79}P", format!("BS{columns:30}1A23"));
+        match Row::read(row.as_bytes()) {
+            Ok((_, row)) => row.to_string(),
+            Err(refusal) => refusal.to_string(),
+        }
+    }
+
+    #[test]
+    fn schedules_with_no_end() {
+        let rest = "runs Mon Tue Wed Thu Fri, identity \"1A23\"";
+        let train = "schedule: train C12345 (number 212345), permanent, from day";
+        for (columns, says) in [
+            (
+                "NC123452312119999991111100",
+                format!("new {train} 23355 (Monday) until further notice, {rest}"),
+            ),
+            (
+                "RC123455912319999991111100",
+                format!("revised {train} 36524 (Wednesday) until further notice, {rest}"),
+            ),
+            (
+                "RC123455912315912311111100",
+                format!("revised {train} 36524 (Wednesday) to day 36524 (Wednesday), {rest}"),
+            ),
+            (
+                "DC12345231211999999",
+                format!("deleted {train} 23355 (Monday)"),
+            ),
+        ] {
+            assert_eq!(told(columns), says);
+        }
+    }
+
+    #[test]
+    fn no_first_day_and_no_end() {
+        let lacks =
+            |column| format!("refused 5, column {column}, identity \"BS\": a field lacks its form");
+        for (columns, column) in [
+            ("NC123459999999999991111100", 10),
+            ("RC123459999992405311111100", 10),
+            ("DC12345999999", 10),
+            ("NC123452312119999981111100", 16),
+            ("RC12345231211 999991111100", 16),
+            ("NC123452312119999991111102", 22),
+        ] {
+            assert_eq!(told(columns), lacks(column));
+        }
+        let reversed = told("NC123455912315912301111100");
+        assert!(reversed.starts_with("refused 6, column 16, "));
     }
 }

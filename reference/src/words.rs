@@ -1,6 +1,6 @@
 //! The words in which the report tells what a row holds.
 
-use crate::forms::{DaysRun, ExtractKind, PublicTime, StpLetter, Uid};
+use crate::forms::{DaysRun, End, ExtractKind, PublicTime, StpLetter, Uid};
 use crate::row::{
     Call, Change, Destination, Header, Origin, Place, Row, Running, Schedule, Unread,
 };
@@ -58,8 +58,20 @@ impl Display for Schedule {
 
 impl Display for Running {
     fn fmt(&self, f: &mut Formatter<'_>) -> Result {
-        let (last, days, identity) = (self.last, self.days, &self.identity.0);
-        write!(f, " to {last}, runs {days}, identity \"{identity}\"")
+        let (end, days, identity) = (self.end, self.days, &self.identity.0);
+        write!(f, " {end}, runs {days}, identity \"{identity}\"")
+    }
+}
+
+/// What is told of a schedule with no end.
+pub const NO_END: &str = "until further notice";
+
+impl Display for End {
+    fn fmt(&self, f: &mut Formatter<'_>) -> Result {
+        match self {
+            End::Day(last) => write!(f, "to {last}"),
+            End::Never => f.write_str(NO_END),
+        }
     }
 }
 

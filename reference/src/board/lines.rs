@@ -90,7 +90,7 @@ fn in_force<'a>(train: &[&'a Record], day: Date) -> Option<&'a Record> {
 }
 
 fn is_candidate(record: &Record, day: Date) -> bool {
-    (record.key.first..=record.last).contains(&day) && record.days.0[day.weekday() as usize]
+    record.key.first <= day && record.end.lasts_to(day) && record.days.0[day.weekday() as usize]
 }
 
 /// A line for each call at the station that has a public departure.

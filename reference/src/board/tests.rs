@@ -55,6 +55,81 @@ fn the_worked_week() {
     );
 }
 
+/// The identity of the line that a board of HALTA has on this date, over schedules of one train
+/// with these columns 10 to 28 and letters; each has the letter's identity.
+fn in_force(schedules: &[(&str, char)], date: &str) -> Option<String> {
+    let train = |(columns, letter): &(&str, char)| {
+        let schedule = format!("{:79}{letter}", format!("BSND00001{columns}    {letter}"));
+        let ends = ["LOHALTA        09054", "LTSANDPT       1004"].map(|row| format!("{row:80}"));
+        format!("{schedule}\n{}\n", ends.join("\n"))
+    };
+    let rows: String = schedules.iter().map(train).collect();
+    let (store, refused) = stores::filled_from(schedules.len(), rows.as_bytes());
+    assert_eq!((store.count(), refused), (schedules.len(), 0));
+    let request = Request {
+        kind: Kind::Table,
+        slots: schedules.len(),
+        station: "HALTA".into(),
+        date: date.into(),
+    };
+    let lines = request.lines(&store).unwrap();
+    assert!(lines.len() < 2);
+    lines.first().map(|line| line.shown().identity.0)
+}
+
+/// Each date has the line of this letter, or none where it is a blank.
+fn has(schedules: &[(&str, char)], dates: &[(&str, &str)]) {
+    for &(date, letter) in dates {
+        let told = in_force(schedules, date).unwrap_or_default();
+        assert_eq!(told.trim(), letter.trim(), "{date}");
+    }
+}
+
+#[test]
+fn until_further_notice() {
+    let train = [("2403049999991111100", 'P')];
+    has(
+        &train,
+        &[
+            ("600101", " "),
+            ("240303", " "),
+            ("240304", "P"),
+            ("240308", "P"),
+            ("240309", " "),
+            ("240506", "P"),
+            ("591231", "P"),
+        ],
+    );
+    let last = [("5912319999990010000", 'N')];
+    has(&last, &[("591230", " "), ("591231", "N"), ("600101", " ")]);
+    let first = [("6001019999991111111", 'O')];
+    has(&first, &[("600101", "O"), ("600102", "O"), ("591231", "O")]);
+}
+
+#[test]
+fn an_end_over_no_end_and_the_other_way_round() {
+    let end_over_none = [
+        ("5912299999991111111", 'P'),
+        ("5912305912301111111", 'O'),
+        ("5912319999991111111", 'N'),
+    ];
+    let dates = [("591229", "P"), ("591230", "O"), ("591231", "N")];
+    has(&end_over_none, &dates);
+    let none_over_end = [("5912295912301111111", 'P'), ("5912309999991111111", 'O')];
+    let dates = [("591229", "P"), ("591230", "O"), ("591231", "O")];
+    has(&none_over_end, &dates);
+    let cancelled = [("2403049999991111111", 'P'), ("2403069999990010000", 'C')];
+    let dates = [
+        ("240305", "P"),
+        ("240306", " "),
+        ("240307", "P"),
+        ("240313", " "),
+        ("591230", "P"),
+        ("591231", " "),
+    ];
+    has(&cancelled, &dates);
+}
+
 /// What is told of so many pages over the worked week.
 fn pages(times: u64, date: &str) -> Result<u64, Reason> {
     let (store, _) = week(3);

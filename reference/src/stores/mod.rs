@@ -137,6 +137,21 @@ mod tests {
     }
 
     #[test]
+    fn a_schedule_with_no_end_is_listed() {
+        let rows = [
+            ("BSNC123455912319999991111100    1A23", 'C'),
+            ("BSRC123452312119999990000000    1A23", 'C'),
+        ];
+        let rest = "operator \"  \", destination \"       \", calls 0\n";
+        assert!(told(&rows).ends_with(&format!(
+            "table: 2 of 2\n\
+             C12345 C day 23355 until further notice, runs on no day, identity \"1A23\", {rest}\
+             C12345 C day 36524 until further notice, runs Mon Tue Wed Thu Fri, \
+             identity \"1A23\", {rest}bag: 2 of 2, the same map\n"
+        )));
+    }
+
+    #[test]
     fn a_third_call_at_one_tiploc() {
         let rows = [
             (NEW, 'P'),

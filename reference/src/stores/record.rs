@@ -1,8 +1,9 @@
 //! Records, and the check that makes schedules of them.
 
 use crate::calendar::{Date, DAYS};
-use crate::forms::{DaysRun, Label, PublicTime, StpLetter, Tiploc, Uid};
+use crate::forms::{DaysRun, End, Label, PublicTime, StpLetter, Tiploc, Uid};
 use crate::row::{self, Call, Running};
+use crate::words;
 use std::fmt;
 
 /// The first number that is no UID's.
@@ -45,7 +46,7 @@ impl fmt::Display for Key {
 #[derive(Clone, Debug)]
 pub struct Record {
     pub key: Key,
-    pub last: Date,
+    pub end: End,
     pub days: DaysRun,
     pub identity: Label,
     pub operator: String,
@@ -58,7 +59,7 @@ impl Record {
     pub fn new(key: Key, running: Running) -> Record {
         Record {
             key,
-            last: running.last,
+            end: running.end,
             days: running.days,
             identity: running.identity,
             operator: NO_OPERATOR.to_owned(),
@@ -100,10 +101,10 @@ impl Schedule {
     /// The schedule that a record is, or `None` where it lacks what every schedule has.
     pub fn check(record: Record) -> Option<Schedule> {
         let Key { uid, first, stp } = record.key;
+        let days = [Some(first), record.end.day()];
         let lawful = uid.0 < UIDS
-            && first.number() < DAYS
-            && record.last.number() < DAYS
-            && first <= record.last
+            && days.into_iter().flatten().all(|day| day.number() < DAYS)
+            && record.end.lasts_to(first)
             && record.calls.len() <= CALLS
             && record.most_visits() <= VISITS
             && (stp != StpLetter::Cancellation || record.is_bare());
@@ -123,18 +124,21 @@ impl fmt::Display for Schedule {
     fn fmt(&self, f: &mut fmt::Formatter<'_>) -> fmt::Result {
         let Record {
             key,
-            last,
+            end,
             days,
             identity: Label(identity),
             operator,
             destination,
             calls,
         } = &self.0;
+        let end = match end {
+            End::Day(last) => format!("to day {}", last.number()),
+            End::Never => words::NO_END.to_owned(),
+        };
         write!(
             f,
-            "{key} to day {}, runs {days}, identity \"{identity}\", operator \"{operator}\", \
+            "{key} {end}, runs {days}, identity \"{identity}\", operator \"{operator}\", \
              destination \"{destination}\", calls {}",
-            last.number(),
             calls.len()
         )
     }

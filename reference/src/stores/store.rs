@@ -133,7 +133,7 @@ impl Store {
 mod tests {
     use super::*;
     use crate::calendar::Date;
-    use crate::forms::{DaysRun, Label, StpLetter, Uid};
+    use crate::forms::{DaysRun, End, Label, StpLetter, Uid};
     use crate::row::Running;
     use crate::stores::record::Record;
 
@@ -148,7 +148,7 @@ mod tests {
     /// A schedule that runs up to the day of this number.
     fn schedule(uid: u32, last: u32) -> Schedule {
         let running = Running {
-            last: Date::at_number(last),
+            end: End::Day(Date::at_number(last)),
             days: DaysRun([true; 7]),
             identity: Label("1A23".to_owned()),
         };

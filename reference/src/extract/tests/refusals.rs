@@ -57,6 +57,10 @@ fn forms_and_days() {
     refused(&[HEADER], &reversed, "6, column 16, identity \"BS\", row 2");
     let revised = reversed.replace("BSN", "BSR");
     refused(&[HEADER], &revised, "6, column 16, identity \"BS\", row 2");
+    let says = "5, column 10, identity \"BS\", row 2";
+    refused(&[HEADER], &NEW_A.replace("231211", "999999"), says);
+    let says = "5, column 16, identity \"BS\", row 2";
+    refused(&[HEADER], &NEW_A.replace("240531", "999998"), says);
     let rows = [&[HEADER], &whole(NEW_A)[..]].concat();
     let says = "5, column 22, identity \"BS\", row 5";
     refused(&rows, &NEW_A.replace("1111100", "1111120"), says);
