@@ -60,7 +60,7 @@ pub enum End {
 
 impl End {
     /// The digits that stand for no end.
-    const NEVER: &[u8; 6] = b"999999";
+    pub const NEVER: &[u8; 6] = b"999999";
 
     /// Whether a schedule with this end lasts to the day: its last day is that or a later one, or
     /// it has none.

@@ -4,6 +4,7 @@ use super::lawful::{self, put, put_days, value};
 use super::spec::{Sort, Spec};
 use super::splitmix::SplitMix;
 use crate::calendar::{Date, DAYS};
+use crate::forms::End;
 use crate::identity::Identity;
 
 /// A row with a fault of some kind, or with garbage that is not read.
@@ -108,6 +109,14 @@ pub fn reversed_days(random: &mut SplitMix) -> Vec<u8> {
     row
 }
 
+/// A schedule, be it deleted or not, with what stands for no end in the place of its first day.
+pub fn no_first_day(random: &mut SplitMix) -> Vec<u8> {
+    let sort = *random.choose(&[Sort::CHANGED, Sort::CHANGED, Sort::DELETED]);
+    let mut row = lawful::row(random, sort);
+    put(&mut row, 10, End::NEVER);
+    row
+}
+
 /// A schedule deleted whose columns 16 to 36 hold anything; it is read all the same.
 fn deleted_with_garbage(random: &mut SplitMix) -> Vec<u8> {
     let mut row = lawful::row(random, Sort::DELETED);
@@ -115,7 +124,7 @@ fn deleted_with_garbage(random: &mut SplitMix) -> Vec<u8> {
         put(&mut row, column, &[random.printable()]);
     }
     if random.once_in(2) {
-        put(&mut row, 16, &near_miss(random, Spec::Date));
+        put(&mut row, 16, &near_miss(random, Spec::End));
         put(&mut row, 22, &near_miss(random, Spec::DaysRun));
         put(&mut row, 33, &near_miss(random, Spec::Label(4)));
     }
@@ -159,8 +168,10 @@ fn near_miss(random: &mut SplitMix, spec: Spec) -> Vec<u8> {
     match spec {
         Spec::Uid if random.once_in(2) => with_one(random, spec, 0..1, b"@[abz 0"),
         Spec::Uid => with_one(random, spec, 1..6, b"/: AO"),
-        Spec::Date if random.once_in(3) => with_one(random, spec, 0..6, b"/: O"),
-        Spec::Date => no_such_day(random),
+        Spec::Date if random.once_in(2) => End::NEVER.to_vec(),
+        Spec::End if random.once_in(4) => nearly_no_end(random),
+        Spec::Date | Spec::End if random.once_in(3) => with_one(random, Spec::Date, 0..6, b"/: O"),
+        Spec::Date | Spec::End => no_such_day(random),
         Spec::DaysRun => with_one(random, spec, 0..7, b"/2 9Yy"),
         Spec::Tiploc => bad_tiploc(random),
         Spec::Suffix => with_one(random, spec, 0..1, b"/:!A-a"),
@@ -195,7 +206,15 @@ fn with_one(
     bytes
 }
 
-/// Six digits that name no day.
+/// What stands for no end, with another digit, a blank or a mark in one place: no date either.
+fn nearly_no_end(random: &mut SplitMix) -> Vec<u8> {
+    let mut bytes = End::NEVER.to_vec();
+    let index = random.index(bytes.len());
+    bytes[index] = *random.choose(b"0128 /:");
+    bytes
+}
+
+/// Six digits that name no day, nor stand for no end.
 fn no_such_day(random: &mut SplitMix) -> Vec<u8> {
     loop {
         let (month, day) = match random.below(6) {

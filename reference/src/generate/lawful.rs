@@ -4,10 +4,13 @@ use super::spec::{Sort, Spec};
 use super::splitmix::SplitMix;
 use crate::calendar::{Date, DAYS};
 use crate::fields::LENGTH;
+use crate::forms::End;
 use crate::identity::Identity;
 
 pub const DIGITS: &[u8] = b"0123456789";
 pub const LETTERS: &[u8] = b"ABCDEFGHIJKLMNOPQRSTUVWXYZ";
+/// One schedule in so many has no end.
+const ENDLESS: u32 = 10;
 const NAME: &[u8] = b"ABCDEFGHIJKLMNOPQRSTUVWXYZ0123456789";
 const LABEL: &[u8] = b"ABCDEFGHIJKLMNOPQRSTUVWXYZ0123456789          ";
 
@@ -44,7 +47,7 @@ pub fn sort(random: &mut SplitMix) -> Sort {
 }
 
 /// A row of this sort whose every field has its form. Columns that are not read hold any
-/// printable byte, or in some rows blanks.
+/// printable byte, or in some rows blanks; in some deletions what stands for no end.
 pub fn row(random: &mut SplitMix, sort: Sort) -> Vec<u8> {
     let blank = random.once_in(4);
     let mut row: Vec<u8> = (0..LENGTH)
@@ -61,9 +64,20 @@ pub fn row(random: &mut SplitMix, sort: Sort) -> Vec<u8> {
         } else {
             random.below(DAYS)
         };
-        put_days(&mut row, first.min(last), first.max(last));
+        put_run(random, &mut row, first.min(last), first.max(last));
+    } else if sort == Sort::DELETED && random.once_in(ENDLESS) {
+        put(&mut row, 16, End::NEVER);
     }
     row
+}
+
+/// Puts the first day of a schedule, given by its number, and the last, or now and then no end in
+/// its place.
+pub fn put_run(random: &mut SplitMix, row: &mut [u8], first: u32, last: u32) {
+    put_days(row, first, last);
+    if random.once_in(ENDLESS) {
+        put(row, 16, End::NEVER);
+    }
 }
 
 /// Puts the first and the last day of a schedule, given by their numbers.
@@ -76,7 +90,8 @@ pub fn put_days(row: &mut [u8], first: u32, last: u32) {
 pub fn value(random: &mut SplitMix, spec: Spec) -> Vec<u8> {
     match spec {
         Spec::Uid => [random.bytes(1, LETTERS), random.bytes(5, DIGITS)].concat(),
-        Spec::Date => Date::at_number(random.below(DAYS)).digits().into_bytes(),
+        Spec::End if random.once_in(ENDLESS) => End::NEVER.to_vec(),
+        Spec::Date | Spec::End => Date::at_number(random.below(DAYS)).digits().into_bytes(),
         Spec::DaysRun if random.once_in(16) => b"0000000".to_vec(),
         Spec::DaysRun => random.bytes(7, b"01"),
         Spec::Tiploc => {

@@ -78,7 +78,9 @@ fn row(random: &mut SplitMix) -> Vec<u8> {
 #[cfg(test)]
 mod tests {
     use super::*;
+    use crate::forms::End;
     use crate::row::Row;
+    use spec::Sort;
 
     #[test]
     fn lawful_rows_are_read() {
@@ -86,6 +88,16 @@ mod tests {
         for _ in 0..20_000 {
             let sort = lawful::sort(&mut random);
             assert!(Row::read(&lawful::row(&mut random, sort)).is_ok());
+        }
+    }
+
+    #[test]
+    fn one_schedule_in_ten_has_no_end() {
+        let mut random = SplitMix::new(5);
+        for sort in [Sort::CHANGED, Sort::DELETED] {
+            let rows = (0..10_000).map(|_| lawful::row(&mut random, sort));
+            let endless = rows.filter(|row| row[15..21] == *End::NEVER).count();
+            assert!((900..1_100).contains(&endless), "{endless}");
         }
     }
 

@@ -2,7 +2,7 @@
 //! some call too often. Now and then a row has a fault or the destination is missing.
 
 use super::faulty;
-use super::lawful::{self, put, put_days};
+use super::lawful::{self, put, put_run};
 use super::spec::Sort;
 use super::splitmix::SplitMix;
 use crate::calendar::{Date, DAYS};
@@ -111,7 +111,7 @@ fn basic_schedule(random: &mut SplitMix, sort: Sort, letter: u8) -> Vec<u8> {
     } else {
         put(&mut row, 3, &random.bytes(1, b"NNNNR"));
         let last = first + random.below(DAYS - first);
-        put_days(&mut row, first, last);
+        put_run(random, &mut row, first, last);
     }
     put(&mut row, 4, random.choose(&UIDS).as_bytes());
     put(&mut row, 80, &[letter]);

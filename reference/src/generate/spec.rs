@@ -6,6 +6,7 @@ use crate::identity::Identity;
 pub enum Spec {
     Uid,
     Date,
+    End,
     DaysRun,
     Tiploc,
     Suffix,
@@ -30,7 +31,7 @@ const SCHEDULE: &[Field] = &[
     (3, CHANGE),
     (4, Spec::Uid),
     (10, Spec::Date),
-    (16, Spec::Date),
+    (16, Spec::End),
     (22, Spec::DaysRun),
     (33, Spec::Label(4)),
     (80, STP),

@@ -2,7 +2,7 @@
 
 use crate::calendar::{Date, DAYS};
 use crate::forms::Tiploc;
-use crate::generate::lawful::{self, put, put_days};
+use crate::generate::lawful::{self, put, put_run};
 use crate::generate::schedules::{self, FIRST_DAYS, UIDS};
 use crate::generate::spec::Sort;
 use crate::generate::splitmix::SplitMix;
@@ -68,7 +68,7 @@ pub fn basic_schedule(random: &mut SplitMix, change: u8, key: Key) -> Vec<u8> {
         put(&mut row, 10, Date::at_number(key.first).digits().as_bytes());
     } else {
         let last = key.first + random.below(DAYS - key.first);
-        put_days(&mut row, key.first, last);
+        put_run(random, &mut row, key.first, last);
     }
     put(&mut row, 80, &[key.letter]);
     row

@@ -134,11 +134,12 @@ impl Player<'_> {
         self.hand(header);
     }
 
-    /// Adds a BS row whose days are the wrong way round, or whose key is there or not as it
-    /// should not be, or for which the store has no room.
+    /// Adds a BS row whose days are the wrong way round, which has no first day, or whose key is
+    /// there or not as it should not be, or for which the store has no room.
     fn unfit_schedule(&mut self) {
-        let row = match (self.random.below(5), self.present_key()) {
+        let row = match (self.random.below(6), self.present_key()) {
             (0, _) => faulty::reversed_days(self.random),
+            (5, _) => faulty::no_first_day(self.random),
             (1 | 2, Some(key)) => pool::basic_schedule(self.random, b'N', key),
             (3, _) if self.is_full() => {
                 let key = self.absent_key();

@@ -2,7 +2,7 @@
 
 use crate::calendar::{Date, DAYS};
 use crate::forms::{StpLetter, Uid};
-use crate::generate::lawful::{self, put, put_days};
+use crate::generate::lawful::{self, put, put_run};
 use crate::generate::spec::Sort;
 use crate::generate::splitmix::SplitMix;
 use crate::identity::Identity;
@@ -54,8 +54,8 @@ impl Pool {
         self.monday
     }
 
-    /// The BS row of the train of this number in a crowd, which runs every day for a while, the
-    /// Monday among them.
+    /// The BS row of the train of this number in a crowd, which runs every day for a while or until
+    /// further notice, the Monday among them.
     pub fn schedule_of_crowd(&self, random: &mut SplitMix, number: u32) -> Vec<u8> {
         let first = self.monday - random.below(8);
         let key = Key {
@@ -64,7 +64,7 @@ impl Pool {
             stp: *random.choose(&[StpLetter::Permanent, StpLetter::NewShortTerm]),
         };
         let mut row = basic_schedule(random, b'N', key);
-        put_days(&mut row, first, (self.monday + 9).min(DAYS - 1));
+        put_run(random, &mut row, first, (self.monday + 9).min(DAYS - 1));
         put(&mut row, 22, b"1111111");
         row
     }
@@ -79,10 +79,15 @@ impl Pool {
         (self.day(random), self.station(random))
     }
 
-    /// A day from the Sunday before the Monday to the Tuesday after, the week's more often.
+    /// A day from the Sunday before the Monday to the Tuesday after, the week's more often; now and
+    /// then one far later, or the last of all.
     pub fn day(&self, random: &mut SplitMix) -> u32 {
         let days = [0, 1, 1, 1, 2, 2, 3, 3, 4, 5, 6, 7, 9];
-        (self.monday - 1 + random.choose(&days)).min(DAYS - 1)
+        match random.below(36) {
+            0 => DAYS - 1,
+            1 => self.monday + random.below(DAYS - self.monday),
+            _ => (self.monday - 1 + random.choose(&days)).min(DAYS - 1),
+        }
     }
 
     pub fn key(&self, random: &mut SplitMix) -> Key {
@@ -130,7 +135,7 @@ pub fn header(random: &mut SplitMix, current: &str, last: &str, kind: u8) -> Vec
 }
 
 /// A BS row with this letter of transaction for this key; most trains run on every day for a
-/// week or so.
+/// week or so, and some until further notice.
 pub fn basic_schedule(random: &mut SplitMix, change: u8, key: Key) -> Vec<u8> {
     let (sort, first) = match change {
         b'D' => (Sort::DELETED, key.first.digits()),
@@ -146,7 +151,7 @@ pub fn basic_schedule(random: &mut SplitMix, change: u8, key: Key) -> Vec<u8> {
     }
     let first = key.first.number();
     let length = *random.choose(&[0, 2, 4, 6, 6, 7, 13, 30, 400]);
-    put_days(&mut row, first, (first + length).min(DAYS - 1));
+    put_run(random, &mut row, first, (first + length).min(DAYS - 1));
     match random.below(8) {
         0 => put(&mut row, 22, b"1111100"),
         1 => put(&mut row, 22, b"1011011"),

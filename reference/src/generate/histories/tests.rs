@@ -86,7 +86,7 @@ fn most_other_boards_are_the_same() {
 fn boards_are_the_same_with_the_trains_in_another_order() {
     let random = &mut SplitMix::new(7);
     let mut lines = 0;
-    for slots in 0..60 {
+    for slots in 0..120 {
         let (slots, pool) = (slots % 15, Pool::new(random));
         let mut player = Player::new(random, &pool, slots, 2 * slots);
         player.play(92, 138);
@@ -98,5 +98,5 @@ fn boards_are_the_same_with_the_trains_in_another_order() {
             lines += board.lines().len();
         }
     }
-    assert!(lines > 60, "{lines}");
+    assert!(lines > 90, "{lines}");
 }
