@@ -13,3 +13,4 @@ pub mod Called
 pub mod Lawful
 pub mod Kept
 pub mod RowCalls
+pub mod Dated

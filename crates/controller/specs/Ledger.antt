@@ -6,7 +6,7 @@ use Rattle.schedule.specs.Records.{seven_blanks}
 use Rattle.timetable.specs.Timetables.{Meaning}
 use Rattle.overlay.specs.Overlays.{done_all}
 use Rattle.overlay.specs.Laws.{of_train}
-use Rattle.extract.specs.Progress.{Progress, progress_of, transactions_of}
+use Rattle.extract.specs.Progress.{Progress, progress_of}
 use Rattle.extract.specs.Judging.{Standing}
 use Rattle.board.specs.declared.display.StationDay.{StationDay}
 use Rattle.board.specs.declared.line.Line.{Line}

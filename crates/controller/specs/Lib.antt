@@ -7,5 +7,6 @@ pub mod ScheduleRows
 pub mod ExtractRows
 pub mod WorkedExtract
 pub mod Ledger
+pub mod Dated
 pub mod Keeping
 pub mod LedgerRows

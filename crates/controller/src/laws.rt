@@ -4,6 +4,7 @@ ghost use Rattle.controller.specs.ScheduleRows.{ScheduleRowsMakeOne, BriefRowJoi
 ghost use Rattle.controller.specs.ExtractRows.{RowsComeToParts, ExtractComesToParts};
 ghost use Rattle.controller.specs.WorkedExtract.{WorkedExtract};
 ghost use Rattle.controller.specs.LedgerRows.{LedgerRowsAreTaken};
+ghost use Rattle.controller.specs.Dated.{NothingChangesWithoutNoEnd};
 
 /// The overlay's map is the store's with the transactions of the rows done in order, whatever the store.
 pub fn overlay_is_of_rows()
@@ -68,4 +69,10 @@ pub fn worked_extract()
 /// The rows of a ledger were taken, and what is confirmed are the transactions of their parts.
 pub fn ledger_rows_are_taken()
     ensures { LedgerRowsAreTaken }
+{}
+
+/// Where no row says that a train has no end, transactions, verdicts, map and board lines are those that they were while every schedule
+/// had a last day, whatever the calls.
+pub fn nothing_changes_without_no_end()
+    ensures { NothingChangesWithoutNoEnd }
 {}

@@ -1,5 +1,8 @@
 -- What rows hold, in plain words.
 use Rattle.std.specs.Prelude.{ℕ, Bool, true, false, List, [], ◌++◌, if◌then◌else◌, get_or, codes, decimal, encode_utf8, Some, None, Option}
+use Rattle.calendar.specs.Calendar.{weekday}
+use Rattle.forms.specs.declared.end.End.{End}
+use Rattle.forms.specs.declared.end.End.TheVariants.{Day, Never}
 use Rattle.forms.specs.declared.letters.Stp.{Stp}
 use Rattle.forms.specs.declared.letters.Stp.TheVariants.{Cancellation, ShortTerm, Overlay, Permanent}
 use Rattle.forms.specs.declared.letters.Coverage.{Coverage}
@@ -15,7 +18,7 @@ use Rattle.cif.specs.declared.content.Location.{Location}
 use Rattle.cif.specs.declared.content.Running.{Running}
 use Rattle.cif.specs.declared.identity.Identity.{Identity}
 use Rattle.cif.specs.declared.identity.Identity.TheVariants.{ChangeEnRoute, TiplocInsert, TiplocAmend, TiplocDelete, Association}
-use Rattle.wording.specs.Texts.{text_of, uid_text, clock_text, weekdays, days_text}
+use Rattle.wording.specs.Texts.{text_of, uid_text, clock_text, weekdays, no_end_text, days_text}
 
 -- a train is told by its UID and the UID's number
 abbrev pub train_text : ℕ → List ℕ
@@ -25,6 +28,11 @@ train_text n = uid_text n ++ codes " (number " ++ decimal n ++ codes ")"
 abbrev pub day_text : ℕ × ℕ → List ℕ
 day_text day = codes "day " ++ decimal day.0
     ++ codes " (" ++ get_or weekdays day.1 (codes "Sunday") ++ codes ")"
+
+-- an end is told as the last day, or that the train runs until further notice
+abbrev pub end_text : End → List ℕ
+end_text (Day last) = codes "to " ++ day_text (last, weekday last)
+end_text Never = no_end_text
 
 -- a public time follows its verb, and where there is none its noun says so
 abbrev pub time_text : List ℕ → List ℕ → Option ℕ → List ℕ
@@ -54,9 +62,9 @@ verb_text (New running) = codes "new"
 verb_text (Revise running) = codes "revised"
 verb_text Delete = codes "deleted"
 
--- how a train runs is told by its last day, the days it runs and its identity
+-- how a train runs is told by its end, the days it runs and its identity
 abbrev pub running_text : Running → List ℕ
-running_text r = codes " to " ++ day_text r.to ++ codes ", runs " ++ days_text r.days
+running_text r = codes " " ++ end_text r.to ++ codes ", runs " ++ days_text r.days
     ++ codes ", identity \"" ++ text_of r.train ++ codes "\""
 
 -- how the train of a schedule runs, where it is not deleted

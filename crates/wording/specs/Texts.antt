@@ -34,6 +34,10 @@ abbrev pub days_named : List (List ℕ) → List ℕ
 days_named [] = codes "on no day"
 days_named (name ∷ names) = join_with_byte 32 (name ∷ names)
 
+-- a train that has no last day
+abbrev pub no_end_text : List ℕ
+no_end_text = codes "until further notice"
+
 -- the days of the week on which a train runs
 abbrev pub days_text : List Bool → List ℕ
 days_text days = days_named (names_run days)

@@ -1,8 +1,9 @@
 //! Keys, schedules and transactions, in plain words.
 ghost use Rattle.std.specs.Prelude.{Some};
-ghost use Rattle.wording.specs.Changes.{key_text, record_text, change_text};
+ghost use Rattle.wording.specs.Changes.{key_text, to_text, record_text, change_text};
 
-use crate::words::{DaysRun, Text, Uid};
+use crate::words::{DaysRun, NO_END, Text, Uid};
+use forms::end::End;
 use schedule::key::Key;
 use schedule::record::Record;
 use schedule::transaction::Change;
@@ -25,7 +26,22 @@ impl Display for KeyWords {
     }
 }
 
-/// Displays a schedule on one line: its key, the number of its last day, the days run, identity,
+// The number of the last day, or that there is none.
+#[derive(Clone, Copy)]
+struct To(End);
+
+impl Display for To {
+    ghost output = { λ to. Some (to_text to.0) };
+
+    fn fmt<W: fmt::Write>(&self, f: &mut Formatter<W>) -> fmt::Result {
+        match self.0 {
+            End::Day(last) => write!(f, "to day {last}"),
+            End::Never => f.write_str(NO_END),
+        }
+    }
+}
+
+/// Displays a schedule on one line: its key, the number of its last day or that it has none, the days run, identity,
 /// operator and destination, and how many calls it has.
 #[derive(Clone, Copy)]
 pub struct RecordWords<'a>(pub &'a Record);
@@ -35,13 +51,13 @@ impl Display for RecordWords<'_> {
 
     fn fmt<W: fmt::Write>(&self, f: &mut Formatter<W>) -> fmt::Result {
         let key = KeyWords(self.0.key);
-        let to = self.0.to;
+        let end = To(self.0.to);
         let days = DaysRun(&self.0.days);
         let train = Text(&self.0.train);
         let operator = Text(&self.0.operator);
         let destination = Text(&self.0.destination);
         let calls = self.0.count;
-        write!(f, "{key} to day {to}, runs {days}, identity \"{train}\"")?;
+        write!(f, "{key} {end}, runs {days}, identity \"{train}\"")?;
         write!(
             f,
             ", operator \"{operator}\", destination \"{destination}\", calls {calls}"

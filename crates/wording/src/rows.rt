@@ -1,11 +1,12 @@
 //! What rows hold, in plain words.
 ghost use Rattle.std.specs.Prelude.{◌≡◌, Some};
 ghost use Rattle.std.specs.Fmt.{DisplaysOnOk};
-ghost use Rattle.wording.specs.Rows.{train_text, day_text, time_text, coverage_text, header_text, kind_text, verb_text, schedule_text, running_text, told_text, location_text, unread_text, content_text};
+ghost use Rattle.wording.specs.Rows.{train_text, day_text, end_text, time_text, coverage_text, header_text, kind_text, verb_text, schedule_text, running_text, told_text, location_text, unread_text, content_text};
 
-use crate::words::{DaysRun, Text, Uid, WEEKDAYS};
+use crate::words::{DaysRun, NO_END, Text, Uid, WEEKDAYS};
 use cif::content::{Action, BasicSchedule, Content, Header, Location, Running};
 use cif::identity::Identity;
+use forms::end::End;
 use forms::letters::{Coverage, Stp};
 use std::fmt;
 use std::fmt::{Display, Formatter};
@@ -35,6 +36,24 @@ impl Display for Day {
         let (number, weekday) = self.0;
         let name = WEEKDAYS.get(weekday as usize).unwrap_or(&"Sunday");
         write!(f, "day {number} ({name})")
+    }
+}
+
+// The last day, by its number and weekday, or that there is none.
+#[derive(Clone, Copy)]
+struct Until(End);
+
+impl Display for Until {
+    ghost output = { λ until. Some (end_text until.0) };
+
+    fn fmt<W: fmt::Write>(&self, f: &mut Formatter<W>) -> fmt::Result {
+        match self.0 {
+            End::Day(last) => {
+                let day = Day((last, calendar::weekday(last)));
+                write!(f, "to {day}")
+            }
+            End::Never => f.write_str(NO_END),
+        }
     }
 }
 
@@ -136,10 +155,10 @@ impl Display for ScheduleWords<'_> {
 fn write_running<W: fmt::Write>(f: &mut Formatter<W>, running: &Running) -> fmt::Result
     ensures { DisplaysOnOk W.write_str_gives f.old result (Some (running_text running.now)) f.new }
 {
-    let to = Day(running.to);
+    let end = Until(running.to);
     let days = DaysRun(&running.days);
     let train = Text(&running.train);
-    write!(f, " to {to}, runs {days}, identity \"{train}\"")
+    write!(f, " {end}, runs {days}, identity \"{train}\"")
 }
 
 // A time after a comma, where there is one to tell.

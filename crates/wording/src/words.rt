@@ -19,6 +19,9 @@ pub(crate) const WEEKDAYS: [&str; 7] = [
     "Sunday",
 ];
 
+// How a schedule with no end runs.
+pub(crate) const NO_END: &str = "until further notice";
+
 /// Displays bytes, each as the character of its number, so that bytes of ASCII are written as they
 /// stand.
 #[derive(Clone, Copy)]
