@@ -1,5 +1,5 @@
 -- Where no row says that a train has no end, the ledger is what it was while every schedule had a last day.
-use Rattle.std.proofs.Common.{◌≡◌, ℕ, Bool, true, false, not, List, [], ◌∷◌, ◌++◌, Some, None, Option, Result, refl, subst, ap, ◌∙◌}
+use Rattle.std.proofs.Common.{◌≡◌, ℕ, Bool, true, false, not, ◌&&◌, List, [], ◌∷◌, ◌++◌, Some, None, Option, Result, refl, subst, ap, ◌∙◌}
 use Rattle.std.specs.List.{list_all}
 use Rattle.std.specs.Option.{option_map, option_map_or}
 use Rattle.std.proofs.lemmas.Bool.{and_parts, and_from, not-true, not_from_false}
@@ -29,7 +29,7 @@ use Rattle.board.proofs.Trains.{same_board}
 use Rattle.controller.specs.declared.fault.ExtractFault.{ExtractFault}
 use Rattle.controller.specs.Calls.{Call, Open, Row, Confirm, Abandon, Turn, Page, Tell, Tally, row_of, on_row, is_out_of_place, place_column, value_in, held_lines, board_lines, refusals_by, told_with, refusals, refusal_of}
 use Rattle.controller.specs.Ledger.{Ledger, Entry, new_ledger, with_row, with_progress, ledger_with, ledger_after, ledger_after_all, confirmed_map, standing_of}
-use Rattle.controller.specs.Dated.{dated_refusal, dated_standing, dated_with, dated_after, dated_after_all, entries_of, dated_entries_of, is_handed_no_end, none_is_handed_no_end, SameByBoth, NothingChangesWithoutNoEnd}
+use Rattle.controller.specs.Dated.{dated_refusal, dated_standing, dated_with, dated_after, dated_after_all, entries_of, dated_entries_of, is_handed_no_end, none_has_no_end_in, none_is_handed_no_end, SameByBoth, NothingChangesWithoutNoEnd}
 
 -- the lines that a row gives are the same where they are for the row that there is
 same_on_row : (o : Option (List ℕ)) (f g : List ℕ → List TableLine) → ((row : List ℕ) → has_no_end row ≡ false → f row ≡ g row) → option_map_or has_no_end o false ≡ false
@@ -88,7 +88,7 @@ with_ends ℓ (Page name minute bytes) a h = a
 with_ends ℓ (Tell place) a h = a
 with_ends ℓ Tally a h = a
 
-after_ends : (ℓ : Ledger) (call : Call) (accepted : Bool) → AllEnds ℓ → is_handed_no_end call ≡ false → AllEnds (ledger_after ℓ call accepted)
+after_ends : (ℓ : Ledger) (call : Call) (accepted : Bool) → AllEnds ℓ → (accepted && is_handed_no_end call) ≡ false → AllEnds (ledger_after ℓ call accepted)
 after_ends ℓ call true a h = with_ends ℓ call a h
 after_ends ℓ call false a h = a
 
@@ -119,9 +119,9 @@ same_verdict ℓ call capacity slots a h =
 same_lines : (m : List Record) (shown : Option StationDay) → each_ends m ≡ true → (lines : List Line) → (LinesBy covering m shown lines → LinesBy dated_covering m shown lines) × (LinesBy dated_covering m shown lines → LinesBy covering m shown lines)
 same_lines m None all lines = ((λ e. e), (λ e. e))
 same_lines m (Some s) all lines = (
-    same_board covering dated_covering m m s.station s.day (λ uid. same_where_all_end m uid s.day all) lines,
-    same_board dated_covering covering m m s.station s.day (λ uid r. let c = same_where_all_end m uid s.day all r in (c.1, c.0)) lines,
-  )
+  same_board covering dated_covering m m s.station s.day (λ uid. same_where_all_end m uid s.day all) lines,
+  same_board dated_covering covering m m s.station s.day (λ uid r. let c = same_where_all_end m uid s.day all r in (c.1, c.0)) lines,
+)
 
 same_by_both : (ℓ : Ledger) → AllEnds ℓ → SameByBoth ℓ ℓ
 same_by_both ℓ a = record {
@@ -132,37 +132,35 @@ same_by_both ℓ a = record {
   lines = same_lines (confirmed_map ℓ) ℓ.shown (all_done_ends ℓ.start ℓ.confirmed a.start a.confirmed);
 }
 
--- calls that are heard one after another are written down alike, and nothing that they leave is without end
-module _ (capacity slots : ℕ) where
-  record Heard (ℓ : Ledger) (calls : List Call) : Type 0 where
-    entries : entries_of ℓ capacity slots calls ≡ dated_entries_of ℓ capacity slots calls
-    ledgers : ledger_after_all ℓ (entries_of ℓ capacity slots calls) ≡ dated_after_all ℓ (entries_of ℓ capacity slots calls)
-    ends : AllEnds (ledger_after_all ℓ (entries_of ℓ capacity slots calls))
+-- entries leave the same ledger, and nothing in it is without end
+entries_same : (ℓ : Ledger) (entries : List Entry) → AllEnds ℓ → none_has_no_end_in entries ≡ true → (ledger_after_all ℓ entries ≡ dated_after_all ℓ entries) × AllEnds (ledger_after_all ℓ entries)
+entries_same ℓ [] a none = (refl, a)
+entries_same ℓ ((call, accepted) ∷ entries) a none =
+    let parts = and_parts (not (accepted && is_handed_no_end call)) (none_has_no_end_in entries) none in
+    let h = not-true (accepted && is_handed_no_end call) parts.0 in
+    let rest = entries_same (ledger_after ℓ call accepted) entries (after_ends ℓ call accepted a h) parts.1 in
+    (rest.0 ∙ ap (λ (l : Ledger). dated_after_all l entries) (same_after ℓ call accepted a), rest.1)
 
-  heard : (ℓ : Ledger) (calls : List Call) → AllEnds ℓ → none_is_handed_no_end calls ≡ true → Heard ℓ calls
-  heard ℓ [] a none = record { entries = refl; ledgers = refl; ends = a }
-  heard ℓ (call ∷ calls) a none =
-      let parts = and_parts (not (is_handed_no_end call)) (none_is_handed_no_end calls) none in
-      let h = not-true (is_handed_no_end call) parts.0 in
-      let accepted = is_missing (refusal_of call (standing_of ℓ capacity) slots) in
-      let nxt = ledger_after ℓ call accepted in
-      let rest = heard nxt calls (after_ends ℓ call accepted a h) parts.1 in
-      record {
-        entries =
-            ap (λ (es : List Entry). (call, accepted) ∷ es) rest.entries
-            ∙ ap (λ (l : Ledger). (call, accepted) ∷ dated_entries_of l capacity slots calls) (same_after ℓ call accepted a)
-            ∙ ap (λ (f : Option ExtractFault). (call, is_missing f) ∷ dated_entries_of (dated_after ℓ call (is_missing f)) capacity slots calls) (same_verdict ℓ call capacity slots a h);
-        ledgers = rest.ledgers ∙ ap (λ (l : Ledger). dated_after_all l (entries_of nxt capacity slots calls)) (same_after ℓ call accepted a);
-        ends = rest.ends;
-      }
+not_handed : (accepted handed : Bool) → handed ≡ false → (accepted && handed) ≡ false
+not_handed true handed h = h
+not_handed false handed h = refl
+
+-- calls that are heard one after another are accepted alike
+calls_same : (ℓ : Ledger) (capacity slots : ℕ) (calls : List Call) → AllEnds ℓ → none_is_handed_no_end calls ≡ true → entries_of ℓ capacity slots calls ≡ dated_entries_of ℓ capacity slots calls
+calls_same ℓ capacity slots [] a none = refl
+calls_same ℓ capacity slots (call ∷ calls) a none =
+    let parts = and_parts (not (is_handed_no_end call)) (none_is_handed_no_end calls) none in
+    let h = not-true (is_handed_no_end call) parts.0 in
+    let accepted = is_missing (refusal_of call (standing_of ℓ capacity) slots) in
+    let rest = calls_same (ledger_after ℓ call accepted) capacity slots calls (after_ends ℓ call accepted a (not_handed accepted (is_handed_no_end call) h)) parts.1 in
+    ap (λ (es : List Entry). (call, accepted) ∷ es) rest
+    ∙ ap (λ (l : Ledger). (call, accepted) ∷ dated_entries_of l capacity slots calls) (same_after ℓ call accepted a)
+    ∙ ap (λ (f : Option ExtractFault). (call, is_missing f) ∷ dated_entries_of (dated_after ℓ call (is_missing f)) capacity slots calls) (same_verdict ℓ call capacity slots a h)
 
 pub nothing_changes : NothingChangesWithoutNoEnd
-nothing_changes start capacity slots calls all none =
-    let h = heard capacity slots (new_ledger start) calls (new_ends start all) none in
-    record {
-      entries = h.entries;
-      ledgers =
-          subst (λ (b : Ledger). SameByBoth (ledger_after_all (new_ledger start) (entries_of (new_ledger start) capacity slots calls)) b)
-          (h.ledgers ∙ ap (λ (es : List Entry). dated_after_all (new_ledger start) es) h.entries)
-          (same_by_both (ledger_after_all (new_ledger start) (entries_of (new_ledger start) capacity slots calls)) h.ends);
-    }
+nothing_changes = record {
+  ledgers = λ start entries all none.
+      let s = entries_same (new_ledger start) entries (new_ends start all) none in
+      subst (λ (b : Ledger). SameByBoth (ledger_after_all (new_ledger start) entries) b) s.0 (same_by_both (ledger_after_all (new_ledger start) entries) s.1);
+  histories = λ start capacity slots calls all none. calls_same (new_ledger start) capacity slots calls (new_ends start all) none;
+}

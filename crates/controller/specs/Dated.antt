@@ -1,5 +1,5 @@
 -- The ledger by the rules as they were while every schedule had a last day, and that nothing changes where no row says that there is none.
-use Rattle.std.specs.Prelude.{◌≡◌, ℕ, Bool, true, false, cond, not, List, [], ◌∷◌, Option, fold}
+use Rattle.std.specs.Prelude.{◌≡◌, ℕ, Bool, true, false, cond, not, ◌&&◌, List, [], ◌∷◌, Option, fold}
 use Rattle.std.specs.List.{list_all}
 use Rattle.std.specs.Option.{option_map, option_map_or}
 use Rattle.cif.specs.Refusals.{uppermost, is_missing}
@@ -43,6 +43,28 @@ dated_after_all ℓ entries = fold (λ (l : Ledger) (e : Entry). dated_after l e
 abbrev pub DatedLinesOf : Ledger → List Line → Type 0
 DatedLinesOf ℓ lines = LinesBy dated_covering (confirmed_map ℓ) ℓ.shown lines
 
+-- a call is handed a BS row with N or R that has 999999 in columns 16 to 21
+abbrev pub is_handed_no_end : Call → Bool
+is_handed_no_end call = option_map_or has_no_end (row_of call) false
+
+-- no row of a ledger, open or confirmed, is one: the rows of a ledger are those of the calls that were accepted
+abbrev pub none_has_no_end_in : List Entry → Bool
+none_has_no_end_in entries = list_all (λ e. not (e.1 && is_handed_no_end e.0)) entries
+
+-- none of some calls is handed one
+abbrev pub none_is_handed_no_end : List Call → Bool
+none_is_handed_no_end calls = list_all (λ call. not (is_handed_no_end call)) calls
+
+-- a ledger by the rules of today and one by the rules as they were are the same: the rows, confirmed transactions and reference; what
+-- the rows come to; how each call that is not handed such a row is judged; the map; the lines
+pub record SameByBoth (now before : Ledger) : Type 0 where
+  pub ledger : now ≡ before
+  pub transactions : transactions_of now.rows ≡ dated_transactions before.rows
+  pub verdicts : (call : Call) (capacity slots : ℕ) → is_handed_no_end call ≡ false
+      → refusal_of call (standing_of now capacity) slots ≡ dated_refusal call (dated_standing before capacity) slots
+  pub map : confirmed_map now ≡ confirmed_map before
+  pub lines : (lines : List Line) → (LinesOf now lines → DatedLinesOf before lines) × (DatedLinesOf before lines → LinesOf now lines)
+
 -- what is written down of calls that are heard one after another: each with whether it is accepted, by the rules of today
 abbrev pub entries_of : Ledger → ℕ → ℕ → List Call → List Entry
 entries_of ℓ capacity slots [] = []
@@ -57,34 +79,11 @@ dated_entries_of ℓ capacity slots (call ∷ calls) =
     let accepted = is_missing (dated_refusal call (dated_standing ℓ capacity) slots) in
     (call, accepted) ∷ dated_entries_of (dated_after ℓ call accepted) capacity slots calls
 
--- a call is handed a BS row with N or R that has 999999 in columns 16 to 21
-abbrev pub is_handed_no_end : Call → Bool
-is_handed_no_end call = option_map_or has_no_end (row_of call) false
-
--- none of some calls is
-abbrev pub none_is_handed_no_end : List Call → Bool
-none_is_handed_no_end calls = list_all (λ call. not (is_handed_no_end call)) calls
-
--- a ledger by the rules of today and one by the rules as they were are the same: the rows, confirmed transactions and reference; what
--- the rows come to; how each call that is not handed such a row is judged; the map; the lines
-pub record SameByBoth (now before : Ledger) : Type 0 where
-  pub ledger : now ≡ before
-  pub transactions : transactions_of now.rows ≡ dated_transactions before.rows
-  pub verdicts : (call : Call) (capacity slots : ℕ) → is_handed_no_end call ≡ false
-      → refusal_of call (standing_of now capacity) slots ≡ dated_refusal call (dated_standing before capacity) slots
-  pub map : confirmed_map now ≡ confirmed_map before
-  pub lines : (lines : List Line) → (LinesOf now lines → DatedLinesOf before lines) × (DatedLinesOf before lines → LinesOf now lines)
-
--- NOTHING CHANGES WITHOUT IT: where a store had only schedules with a last day in it, and no call is handed a BS row with N or R that has
--- 999999 in columns 16 to 21, the same calls are accepted by the rules of today as by the rules as they were, and the ledgers are the same
-pub record NothingElseChanges (start : List Record) (capacity slots : ℕ) (calls : List Call) : Type 0 where
-  pub entries : entries_of (new_ledger start) capacity slots calls ≡ dated_entries_of (new_ledger start) capacity slots calls
-  pub ledgers :
-      SameByBoth
-      (ledger_after_all (new_ledger start) (entries_of (new_ledger start) capacity slots calls))
-      (dated_after_all (new_ledger start) (dated_entries_of (new_ledger start) capacity slots calls))
-
-abbrev pub NothingChangesWithoutNoEnd : Type 0
-NothingChangesWithoutNoEnd =
-    (start : List Record) (capacity slots : ℕ) (calls : List Call) → each_ends start ≡ true → none_is_handed_no_end calls ≡ true
-    → NothingElseChanges start capacity slots calls
+-- NOTHING CHANGES WITHOUT IT, where a store had only schedules with a last day in it at the start
+pub record NothingChangesWithoutNoEnd : Type 0 where
+  -- a ledger of whatever calls none of whose rows, open or confirmed, says that a train has no end is the ledger by the rules as they were
+  pub ledgers : (start : List Record) (entries : List Entry) → each_ends start ≡ true → none_has_no_end_in entries ≡ true
+      → SameByBoth (ledger_after_all (new_ledger start) entries) (dated_after_all (new_ledger start) entries)
+  -- whatever calls are heard, none of which is handed such a row, the same are accepted
+  pub histories : (start : List Record) (capacity slots : ℕ) (calls : List Call) → each_ends start ≡ true → none_is_handed_no_end calls ≡ true
+      → entries_of (new_ledger start) capacity slots calls ≡ dated_entries_of (new_ledger start) capacity slots calls
