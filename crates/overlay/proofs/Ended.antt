@@ -1,5 +1,5 @@
 -- A map whose schedules all have a last day is one after transactions whose schedules have one.
-use Rattle.std.proofs.Common.{◌≡◌, Bool, true, List, [], ◌∷◌}
+use Rattle.std.proofs.Common.{◌≡◌, true, List, [], ◌∷◌}
 use Rattle.std.specs.List.{list_all}
 use Rattle.std.proofs.lemmas.Bool.{and_parts}
 use Rattle.schedule.specs.declared.record.Record.{Record}

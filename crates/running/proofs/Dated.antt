@@ -1,5 +1,5 @@
 -- In a map whose schedules all have a last day the candidates are what they were.
-use Rattle.std.proofs.Common.{◌≡◌, ℕ, Bool, true, false, ◌&&◌, leb, List, Some, sym, refl, ap, ◌∙◌}
+use Rattle.std.proofs.Common.{◌≡◌, ℕ, Bool, true, false, ◌&&◌, leb, List, sym, refl, ap, ◌∙◌}
 use Rattle.std.specs.Prelude.{slice_index_or}
 use Rattle.std.proofs.lemmas.Bool.{both_ways}
 use Rattle.calendar.specs.Calendar.{weekday}
@@ -26,6 +26,6 @@ held_ends m r all held = found_passes ends m (key_of r) r all (sym held)
 
 pub same_where_all_end : SameCandidatesWhereAllEnd
 same_where_all_end m uid day all r = (
-    (λ c. record { there = c.there; train = c.train; on = sym (same_covering r day (held_ends m r all c.there)) ∙ c.on }),
-    (λ c. record { there = c.there; train = c.train; on = same_covering r day (held_ends m r all c.there) ∙ c.on }),
-  )
+  (λ c. record { there = c.there; train = c.train; on = sym (same_covering r day (held_ends m r all c.there)) ∙ c.on }),
+  (λ c. record { there = c.there; train = c.train; on = same_covering r day (held_ends m r all c.there) ∙ c.on }),
+)

@@ -49,9 +49,9 @@ moved m n uid day r e c = record { there = sym e ∙ c.there; train = c.train; o
 -- a train has the same candidates in maps that have the same schedules of it
 pub same_held_candidates : (m n : List Record) (uid day : ℕ) → ((k : Key) → k.uid ≡ uid → schedule_of m k ≡ schedule_of n k) → SameCandidates covering covering m n uid day
 same_held_candidates m n uid day same s = (
-    (λ c. moved m n uid day s (same (key_of s) c.train) c),
-    (λ c. moved n m uid day s (sym (same (key_of s) c.train)) c),
-  )
+  (λ c. moved m n uid day s (same (key_of s) c.train) c),
+  (λ c. moved n m uid day s (sym (same (key_of s) c.train)) c),
+)
 
 pub alone : TrainAlone
 alone m n uid day same r p = same_force covering covering m n uid day (same_held_candidates m n uid day same) r p
