@@ -7,6 +7,7 @@ ghost use Rattle.schedule.specs.Records.{in_range, is_schedule};
 ghost use Rattle.schedule.specs.Schedules.{record_of};
 ghost use Rattle.scenarios.specs.Samples.{sample, permanent_sample};
 
+use forms::end::End;
 use forms::letters::Stp;
 use schedule::key::Key;
 use schedule::record::Record;
@@ -19,7 +20,7 @@ pub fn record(uid: u32, from: u16, stp: Stp, to: u16) -> Record
 {
     Record {
         key: Key { uid, from, stp },
-        to,
+        to: End::Day(to),
         days: [true; 7],
         train: *b"1A23",
         ..Schedule::blank().into()
@@ -43,7 +44,7 @@ pub fn permanent(uid: u32, from: u16, to: u16) -> Option<Schedule>
     ensures none { IfNone result (IsFalse (in_range (permanent_sample uid from to))) }
 {
     let stp = Stp::Permanent;
-    Schedule::begun(Key { uid, from, stp }, to, [true; 7], *b"1A23")
+    Schedule::begun(Key { uid, from, stp }, End::Day(to), [true; 7], *b"1A23")
 }
 
 #[cfg(test)]
