@@ -1,5 +1,5 @@
 -- The ledger by the rules as they were while every schedule had a last day, and that nothing changes where no row says that there is none.
-use Rattle.std.specs.Prelude.{◌≡◌, ℕ, Bool, true, false, cond, not, ◌&&◌, List, [], ◌∷◌, Option, fold}
+use Rattle.std.specs.Prelude.{◌≡◌, ℕ, Bool, true, false, cond, not, List, [], ◌∷◌, ◌++◌, Option, fold}
 use Rattle.std.specs.List.{list_all}
 use Rattle.std.specs.Option.{option_map, option_map_or}
 use Rattle.cif.specs.Refusals.{uppermost, is_missing}
@@ -9,7 +9,7 @@ use Rattle.schedule.specs.declared.record.Record.{Record}
 use Rattle.schedule.specs.Ended.{each_ends}
 use Rattle.running.specs.Dated.{dated_covering}
 use Rattle.extract.specs.Progress.{transactions_of}
-use Rattle.extract.specs.Dated.{dated_progress, dated_transactions}
+use Rattle.extract.specs.Dated.{dated_progress, dated_transactions, none_has_no_end}
 use Rattle.extract.specs.Judging.{Standing}
 use Rattle.board.specs.declared.line.Line.{Line}
 use Rattle.board.specs.Lines.{LinesBy}
@@ -47,43 +47,56 @@ DatedLinesOf ℓ lines = LinesBy dated_covering (confirmed_map ℓ) ℓ.shown li
 abbrev pub is_handed_no_end : Call → Bool
 is_handed_no_end call = option_map_or has_no_end (row_of call) false
 
--- no row of a ledger, open or confirmed, is one: the rows of a ledger are those of the calls that were accepted
-abbrev pub none_has_no_end_in : List Entry → Bool
-none_has_no_end_in entries = list_all (λ e. not (e.1 && is_handed_no_end e.0)) entries
+-- the rows that a call confirms, by whether it was accepted: those of the open extract, where it is a confirmation
+abbrev pub rows_confirmed_by : Ledger → Call → Bool → List (List ℕ)
+rows_confirmed_by ℓ Confirm true = ℓ.rows
+rows_confirmed_by ℓ call accepted = []
+
+-- the rows that entries confirm, in order; those of an extract that is abandoned are not among them
+abbrev pub rows_confirmed : Ledger → List Entry → List (List ℕ)
+rows_confirmed ℓ [] = []
+rows_confirmed ℓ ((call, accepted) ∷ entries) = rows_confirmed_by ℓ call accepted ++ rows_confirmed (ledger_after ℓ call accepted) entries
+
+-- the rows of the ledger after entries, confirmed and open
+abbrev pub rows_after_all : Ledger → List Entry → List (List ℕ)
+rows_after_all ℓ entries = rows_confirmed ℓ entries ++ (ledger_after_all ℓ entries).rows
 
 -- none of some calls is handed one
 abbrev pub none_is_handed_no_end : List Call → Bool
 none_is_handed_no_end calls = list_all (λ call. not (is_handed_no_end call)) calls
 
 -- a ledger by the rules of today and one by the rules as they were are the same: the rows, confirmed transactions and reference; what
--- the rows come to; how each call that is not handed such a row is judged; the map; the lines
+-- the rows come to; how each call that is not handed such a row is judged; the map
 pub record SameByBoth (now before : Ledger) : Type 0 where
   pub ledger : now ≡ before
   pub transactions : transactions_of now.rows ≡ dated_transactions before.rows
   pub verdicts : (call : Call) (capacity slots : ℕ) → is_handed_no_end call ≡ false
       → refusal_of call (standing_of now capacity) slots ≡ dated_refusal call (dated_standing before capacity) slots
   pub map : confirmed_map now ≡ confirmed_map before
-  pub lines : (lines : List Line) → (LinesOf now lines → DatedLinesOf before lines) × (DatedLinesOf before lines → LinesOf now lines)
 
--- what is written down of calls that are heard one after another: each with whether it is accepted, by the rules of today
-abbrev pub entries_of : Ledger → ℕ → ℕ → List Call → List Entry
-entries_of ℓ capacity slots [] = []
-entries_of ℓ capacity slots (call ∷ calls) =
-    let accepted = is_missing (refusal_of call (standing_of ℓ capacity) slots) in
-    (call, accepted) ∷ entries_of (ledger_after ℓ call accepted) capacity slots calls
+-- and they have the same lines
+abbrev pub SameLinesByBoth : Ledger → Ledger → Type 0
+SameLinesByBoth now before = (lines : List Line) → (LinesOf now lines → DatedLinesOf before lines) × (DatedLinesOf before lines → LinesOf now lines)
 
--- and by the rules as they were
-abbrev pub dated_entries_of : Ledger → ℕ → ℕ → List Call → List Entry
-dated_entries_of ℓ capacity slots [] = []
-dated_entries_of ℓ capacity slots (call ∷ calls) =
-    let accepted = is_missing (dated_refusal call (dated_standing ℓ capacity) slots) in
-    (call, accepted) ∷ dated_entries_of (dated_after ℓ call accepted) capacity slots calls
+-- the ledger of calls that are heard one after another, each accepted or refused as a rule judges it, by what a rule says that they leave
+abbrev pub heard_by : (Ledger → Call → Option ExtractFault) → (Ledger → Call → Bool → Ledger) → Ledger → List Call → Ledger
+heard_by judged left ℓ calls = fold (λ (l : Ledger) (call : Call). left l call (is_missing (judged l call))) ℓ calls
 
--- NOTHING CHANGES WITHOUT IT, where a store had only schedules with a last day in it at the start
+-- by the rules of today, and by the rules as they were, for a store's capacity and a board's line slots
+abbrev pub ledger_heard : ℕ → ℕ → Ledger → List Call → Ledger
+ledger_heard capacity slots ℓ calls = heard_by (λ l call. refusal_of call (standing_of l capacity) slots) ledger_after ℓ calls
+
+abbrev pub dated_heard : ℕ → ℕ → Ledger → List Call → Ledger
+dated_heard capacity slots ℓ calls = heard_by (λ l call. dated_refusal call (dated_standing l capacity) slots) dated_after ℓ calls
+
+-- NOTHING CHANGES WITHOUT IT
 pub record NothingChangesWithoutNoEnd : Type 0 where
-  -- a ledger of whatever calls none of whose rows, open or confirmed, says that a train has no end is the ledger by the rules as they were
-  pub ledgers : (start : List Record) (entries : List Entry) → each_ends start ≡ true → none_has_no_end_in entries ≡ true
+  -- a ledger of whatever calls none of whose rows, confirmed or open, says that a train has no end is the ledger by the rules as they were
+  pub ledgers : (start : List Record) (entries : List Entry) → none_has_no_end (rows_after_all (new_ledger start) entries) ≡ true
       → SameByBoth (ledger_after_all (new_ledger start) entries) (dated_after_all (new_ledger start) entries)
-  -- whatever calls are heard, none of which is handed such a row, the same are accepted
-  pub histories : (start : List Record) (capacity slots : ℕ) (calls : List Call) → each_ends start ≡ true → none_is_handed_no_end calls ≡ true
-      → entries_of (new_ledger start) capacity slots calls ≡ dated_entries_of (new_ledger start) capacity slots calls
+  -- its lines are those by the rules as they were, unless the store had a schedule with no end in it at the start, of which no row tells
+  pub lines : (start : List Record) (entries : List Entry) → each_ends start ≡ true → none_has_no_end (rows_after_all (new_ledger start) entries) ≡ true
+      → SameLinesByBoth (ledger_after_all (new_ledger start) entries) (dated_after_all (new_ledger start) entries)
+  -- whatever calls are heard, none of which is handed such a row: by both rules each is refused alike or accepted, and leaves the same
+  pub histories : (start : List Record) (capacity slots : ℕ) (calls : List Call) → none_is_handed_no_end calls ≡ true
+      → SameByBoth (ledger_heard capacity slots (new_ledger start) calls) (dated_heard capacity slots (new_ledger start) calls)

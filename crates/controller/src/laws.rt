@@ -71,8 +71,9 @@ pub fn ledger_rows_are_taken()
     ensures { LedgerRowsAreTaken }
 {}
 
-/// Where no row says that a train has no end, transactions, verdicts, map and board lines are those that they were while every schedule
-/// had a last day, whatever the calls.
+/// Where no row of a ledger, confirmed or open, says that a train has no end, transactions, verdicts and map are those that they were
+/// while every schedule had a last day, whatever the calls; and so are the board lines, unless the store had a schedule with no end in it
+/// at the start.
 pub fn nothing_changes_without_no_end()
     ensures { NothingChangesWithoutNoEnd }
 {}
