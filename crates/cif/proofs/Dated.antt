@@ -1,6 +1,7 @@
 -- Where no BS row says that it has no end, reading is what it was while every schedule had a last day.
 use Rattle.std.proofs.Common.{◌≡◌, ℕ, Bool, true, false, cond, ◌&&◌, eqb, List, length, codes, Some, None, Ok, Err, Option, Result, sym, refl, ap, ◌∙◌, subst, ⊎_elim}
 use Rattle.std.specs.Option.{option_map}
+use Rattle.std.proofs.lemmas.Option.{none-some, same_Some}
 use Rattle.std.proofs.lemmas.Bool.{and_parts, and_cases, both_ways, cond-false}
 use Rattle.std.proofs.lemmas.Slice.Eq.{bytes_eq-Decides}
 use Rattle.forms.specs.declared.end.End.{End}
@@ -25,7 +26,7 @@ use Rattle.cif.specs.Rows.{identity_in, first_bad}
 use Rattle.cif.specs.Fields.{transaction_of, uid_of, from_of, to_of, days_of, train_of, stp_of, reads_all, header_in, schedule_by, schedule_in, operator_in, origin_in, intermediate_in, terminus_in}
 use Rattle.cif.specs.Reading.{letters_in, blanks, content_in, read_in, field_lines_in}
 use Rattle.cif.specs.Dated.{dated_to, dated_content, dated_read, dated_lines, is_basic_schedule, has_no_end, action_ends, content_ends, OnlyNoEndIsNew}
-use Rattle.cif.proofs.Results.{ok_is, err_ok, some_is, none_some}
+use Rattle.cif.proofs.Results.{ok_is, err_ok}
 use Rattle.cif.proofs.Tables.{nested, lines, whole_of}
 use Rattle.cif.proofs.Held.{HasEnd, held}
 
@@ -115,13 +116,30 @@ same_read row h = at (eqb (length row) 80) (first_bad row) (identity_in row) (to
 no_date : (cs : List ℕ) → says_no_end cs ≡ true → last_day_in cs ≡ None
 no_date cs t = ap last_day_in ((bytes_eq-Decides cs (codes "999999")).0 t)
 
+-- a BS whose columns 16 to 21 are read and tell nothing is refused
+unread : (tr : Option TransactionType) (ui : Option ℕ) (fr : Option (ℕ × ℕ)) (da : Option (List Bool)) (tn : Option (List ℕ)) (st : Option Stp) (b : Schedule)
+    → reads_all tr ≡ true → nested ui fr None da tn st tr ≡ Ok b → ⊥
+unread None ui fr da tn st b t h = both_ways false refl t
+unread (Some AsDeleted) ui fr da tn st b t h = both_ways false refl t
+unread (Some AsNew) None fr da tn st b t h = err_ok _ b _ refl h
+unread (Some AsNew) (Some u) None da tn st b t h = err_ok _ b _ refl h
+unread (Some AsNew) (Some u) (Some f) da tn st b t h = err_ok _ b _ refl h
+unread (Some AsRevised) None fr da tn st b t h = err_ok _ b _ refl h
+unread (Some AsRevised) (Some u) None da tn st b t h = err_ok _ b _ refl h
+unread (Some AsRevised) (Some u) (Some f) da tn st b t h = err_ok _ b _ refl h
+
+no_schedule : (row : List ℕ) (b : Schedule) → reads_all (transaction_of row) ≡ true → says_no_end (columns 16 21 row) ≡ true → schedule_by (dated_to row) row ≡ Ok b → ⊥
+no_schedule row b t n h =
+    unread (transaction_of row) (uid_of row) (from_of row) (days_of row) (train_of row) (stp_of row) b t
+    (ap (λ (to : Option End). nested (uid_of row) (from_of row) to (days_of row) (train_of row) (stp_of row) (transaction_of row)) (sym (no_date (columns 16 21 row) n)) ∙ h)
+
 -- a date is a last day
 date_ends : (cs : List ℕ) (e : End) → last_day_in cs ≡ Some e → has_last e ≡ true
 date_ends cs e h = of (date_in cs) h
   where
     of : (d : Option (ℕ × ℕ)) → option_map (λ d. Day d.0) d ≡ Some e → has_last e ≡ true
-    of None h = none_some e h
-    of (Some d) h = ap has_last (sym (some_is (Day d.0) e h))
+    of None h = absurd (none-some e h)
+    of (Some d) h = ap has_last (sym (same_Some (Day d.0) e h))
 
 -- the schedule that a BS holds by a date ends
 schedule_ends : (row : List ℕ) (b : Schedule) → schedule_by (dated_to row) row ≡ Ok b → action_ends b.action ≡ true
@@ -167,9 +185,40 @@ read_ends row c h = at (eqb (length row) 80) (first_bad row) (identity_in row) h
     at true None None h = err_ok _ c _ refl h
     at true None (Some i) h = raised (dated_content i row) (content_held_ends row i) h
 
+-- a BS with N or R that says that it has no end is refused
+row_refused : (row : List ℕ) (c : Content) → has_no_end row ≡ true → dated_read row ≡ Ok c → ⊥
+row_refused row c h e = at (eqb (length row) 80) (first_bad row) (identity_in row) parts.0 e
+  where
+    parts : (is_basic_schedule (identity_in row) ≡ true) × ((reads_all (transaction_of row) && says_no_end (columns 16 21 row)) ≡ true)
+    parts = and_parts (is_basic_schedule (identity_in row)) _ h
+
+    told : (reads_all (transaction_of row) ≡ true) × (says_no_end (columns 16 21 row) ≡ true)
+    told = and_parts (reads_all (transaction_of row)) (says_no_end (columns 16 21 row)) parts.1
+
+    of : (r : Result Schedule ColumnFault) → ((b : Schedule) → r ≡ Ok b → ⊥) → map_err (in_row (letters_in row)) (then r (λ s. Ok (OfSchedule s))) ≡ Ok c → ⊥
+    of (Ok b) none h = none b refl
+    of (Err e) none h = err_ok _ c _ refl h
+
+    at : (long : Bool) (bad : Option ℕ) (id : Option Identity) → is_basic_schedule id ≡ true → read_by (λ i. dated_content i row) row long bad id ≡ Ok c → ⊥
+    at false bad id i h = err_ok _ c _ refl h
+    at true (Some column) id i h = err_ok _ c _ refl h
+    at true None None i h = err_ok _ c _ refl h
+    at true None (Some BasicSchedule) i h = of (schedule_by (dated_to row) row) (λ b. no_schedule row b told.0 told.1) h
+    at true None (Some Header) i h = both_ways false refl i
+    at true None (Some BasicExtra) i h = both_ways false refl i
+    at true None (Some Origin) i h = both_ways false refl i
+    at true None (Some Intermediate) i h = both_ways false refl i
+    at true None (Some Terminus) i h = both_ways false refl i
+    at true None (Some ChangeEnRoute) i h = both_ways false refl i
+    at true None (Some TiplocInsert) i h = both_ways false refl i
+    at true None (Some TiplocAmend) i h = both_ways false refl i
+    at true None (Some TiplocDelete) i h = both_ways false refl i
+    at true None (Some Association) i h = both_ways false refl i
+    at true None (Some Trailer) i h = both_ways false refl i
+
 pub only_no_end_is_new : OnlyNoEndIsNew
 only_no_end_is_new = record {
   others = λ row h. record { read = same_read row h; lines = same_field_lines row (identity_in row) (told_end row h) };
-  refused = λ row h. no_date (columns 16 21 row) (and_parts (reads_all (transaction_of row)) _ (and_parts (is_basic_schedule (identity_in row)) _ h).1).1;
+  refused = row_refused;
   ends = λ row c h e. read_ends row c (sym (same_read row h) ∙ e);
 }

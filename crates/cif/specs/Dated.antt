@@ -1,5 +1,5 @@
 -- The rules of reading as they were while every schedule had a last day, and where they agree with those of today.
-use Rattle.std.specs.Prelude.{◌≡◌, ℕ, Bool, true, false, ◌&&◌, List, Some, None, Ok, Option, Result}
+use Rattle.std.specs.Prelude.{◌≡◌, ℕ, Bool, true, false, ◌&&◌, List, Some, Ok, Option, Result}
 use Rattle.forms.specs.declared.end.End.{End}
 use Rattle.forms.specs.Bytes.{columns}
 use Rattle.forms.specs.Ends.{has_last, says_no_end, last_day_in}
@@ -61,9 +61,9 @@ pub record ReadAsBefore (row : List ℕ) : Type 0 where
   pub read : read_in row ≡ dated_read row
   pub lines : field_lines_in (identity_in row) row ≡ dated_lines (identity_in row) row
 
--- so is every row but a BS with N or R that has 999999 in columns 16 to 21, where these rules find no date; what such a row holds has a
--- last day
+-- so is every row but a BS with N or R that has 999999 in columns 16 to 21, which these rules refuse; what a BS with N or R holds that has
+-- something else there has a last day
 pub record OnlyNoEndIsNew : Type 0 where
   pub others : (row : List ℕ) → has_no_end row ≡ false → ReadAsBefore row
-  pub refused : (row : List ℕ) → has_no_end row ≡ true → dated_to row ≡ None
+  pub refused : (row : List ℕ) (c : Content) → has_no_end row ≡ true → dated_read row ≡ Ok c → ⊥
   pub ends : (row : List ℕ) (c : Content) → has_no_end row ≡ false → read_in row ≡ Ok c → content_ends c ≡ true

@@ -35,8 +35,8 @@ refused_at column = None ∷ Some (5, column) ∷ Some (5, column) ∷ []
 -- the worked cases; the refusals have the numbers 1 to 18 in turn
 pub record Worked : Type 0 where
   pub numbers : map (λ t. t.1) refusal_numbers ≡ range_with_len 1 18
-  pub ends : map (λ t. refusal_in (schedule_row (codes "N") (codes "231211") t)) (codes "240531" ∷ codes "231210" ∷ codes "999999" ∷ codes "999998" ∷ [])
-      ≡ (None ∷ Some (6, 16) ∷ None ∷ Some (5, 16) ∷ [])
+  pub ends : map (λ t. refusal_in (schedule_row (codes "N") (codes "231211") t)) (codes "240531" ∷ codes "231210" ∷ codes "991231" ∷ codes "999999" ∷ codes "999998" ∷ [])
+      ≡ (None ∷ Some (6, 16) ∷ Some (6, 16) ∷ None ∷ Some (5, 16) ∷ [])
   pub starts : map (λ t. refusal_in (schedule_row (codes "N") t (codes "999999"))) (codes "591231" ∷ codes "999999" ∷ []) ≡ (None ∷ Some (5, 10) ∷ [])
   pub changes : map (λ t. refusal_in (schedule_row t (codes "231211") (codes "999999"))) (codes "R" ∷ codes "D" ∷ []) ≡ (None ∷ None ∷ [])
   pub unread : map (λ t. refusal_in (schedule_row (codes "D") (codes "231211") t)) (codes "999998" ∷ codes "231210" ∷ []) ≡ (None ∷ None ∷ [])
