@@ -1,5 +1,6 @@
 -- The lines of one train, call by call.
 use Rattle.std.proofs.Common.{◌≡◌, ℕ, zero, suc, ◌+◌, ◌<◌, ◌≤◌, Bool, true, false, cond, leb, ◌⊎◌, List, [], ◌∷◌, ◌++◌, length, option_and_then, slice_get, take, Some, None, Option, sym, refl, ap, ◌∙◌, subst, inl, inr, ⊎_elim, add-one, arith}
+use Rattle.std.proofs.lemmas.Option.{none-some, same_Some}
 use Rattle.std.proofs.lemmas.List.{length_push}
 use Rattle.std.proofs.lemmas.Slice.Eq.{bytes_eq-Decides}
 use Rattle.std.proofs.lemmas.Bool.{and_parts, cases_Bool, cond-true, cond-false, leb-true, cases_eq}
@@ -11,7 +12,6 @@ use Rattle.maps.proofs.Heaped.{gathered_push, apart_push}
 use Rattle.schedule.specs.declared.record.Record.{Record}
 use Rattle.std.specs.List.{list_all}
 use Rattle.schedule.specs.Records.{is_at, visits, few_visits}
-use Rattle.running.proofs.Forces.{some_is, none_some}
 use Rattle.board.specs.declared.line.LineKey.{LineKey}
 use Rattle.board.specs.declared.line.Line.{Line}
 use Rattle.board.specs.Lines.{line_before, line_key, On, departing, line_of, line_at}
@@ -28,15 +28,15 @@ pub line_here : (station : List ℕ) (r : Record) (p : ℕ) (l : Line) → line_
 line_here station r p l h = of (slice_get r.calls p) refl h
   where
     from : (call : Location) → calls_there station (slice_get r.calls p) ≡ true → (o : Option ℕ) → departing r p call o ≡ Some l → Here station r p l
-    from call t None e = absurd (none_some l e)
-    from call t (Some minute) e = let same_line = some_is _ l e in record { place = sym (ap (λ (x : Line). x.key.place) same_line); uid = sym (ap (λ (x : Line). x.key.uid) same_line); at = t }
+    from call t None e = absurd (none-some l e)
+    from call t (Some minute) e = let same_line = same_Some _ l e in record { place = sym (ap (λ (x : Line). x.key.place) same_line); uid = sym (ap (λ (x : Line). x.key.uid) same_line); at = t }
 
     of : (o : Option Location) → slice_get r.calls p ≡ o → option_and_then (line_of station r p) o ≡ Some l → Here station r p l
-    of None c h = absurd (none_some l h)
+    of None c h = absurd (none-some l h)
     of (Some call) c h =
         ⊎_elim
         (λ t. from call (ap (calls_there station) c ∙ t) call.departure (sym (cond-true (is_at station call) (departing r p call call.departure) None t) ∙ h))
-        (λ f. absurd (none_some l (sym (cond-false (is_at station call) (departing r p call call.departure) None f) ∙ h)))
+        (λ f. absurd (none-some l (sym (cond-false (is_at station call) (departing r p call call.departure) None f) ∙ h)))
         (cases_Bool (is_at station call))
 
 pub added_none : (station : List ℕ) (r : Record) (xs : List Line) → Added station r 0 xs xs
@@ -59,10 +59,10 @@ visits_more t (c ∷ cs) (suc p) =
 
 -- the line that a look-up finds has the key
 pub on_key : (xs : List Line) (k : LineKey) (l : Line) → lookup line_before line_key xs k ≡ Some l → line_key l ≡ k
-on_key [] k l h = absurd (none_some l h)
+on_key [] k l h = absurd (none-some l h)
 on_key (y ∷ ys) k l h =
     ⊎_elim
-    (λ t. ap line_key (some_is l y (sym h ∙ cond-true (same line_before (line_key y) k) (Some y) (lookup line_before line_key ys k) t)) ∙ same_is line_before line_key line_lawful (line_key y) k t)
+    (λ t. ap line_key (same_Some l y (sym h ∙ cond-true (same line_before (line_key y) k) (Some y) (lookup line_before line_key ys k) t)) ∙ same_is line_before line_key line_lawful (line_key y) k t)
     (λ f. on_key ys k l (sym (cond-false (same line_before (line_key y) k) (Some y) (lookup line_before line_key ys k) f) ∙ h))
     (cases_Bool (same line_before (line_key y) k))
 
@@ -75,7 +75,7 @@ lookup_push ys x k none =
     ∙ ap (λ o. cond (same line_before (line_key x) k) (Some x) o) (lookup_gathered line_before line_key line_lawful ys k)
 
 some_at : {X : Type 0} (o : Option X) (x y : X) → o ≡ Some x → o ≡ Some y → x ≡ y
-some_at o x y p q = some_is x y (sym p ∙ q)
+some_at o x y p q = same_Some x y (sym p ∙ q)
 
 other_key : (a b : LineKey) → (a ≡ b → ⊥) → same line_before a b ≡ false
 other_key a b ne = ⊎_elim (λ t. absurd (ne (same_is line_before line_key line_lawful a b t))) (λ f. f) (cases_Bool (same line_before a b))
@@ -97,7 +97,7 @@ module _ (station : List ℕ) (r : Record) (p : ℕ) (xs ys : List Line) (a : Ad
     only = λ l o. ⊎_elim (λ x. inl x) (λ h. inr (let q = h.0 in omega arith, h.1)) (a.only l o);
     kept = a.kept;
     every = λ l h e. ⊎_elim
-        (λ (same_place : l.key.place ≡ p). absurd (none_some l (none ∙ (ap (line_at station r) (sym same_place) ∙ e))))
+        (λ (same_place : l.key.place ≡ p). absurd (none-some l (none ∙ (ap (line_at station r) (sym same_place) ∙ e))))
         (λ ne. a.every l (omega arith) e)
         (cases_eq l.key.place p);
     few = let f = a.few in let v = visit_least in omega arith;
@@ -147,7 +147,7 @@ module _ (station : List ℕ) (r : Record) (p : ℕ) (xs ys : List Line) (a : Ad
           (cases_Bool (same line_before (line_key x) (line_key l)));
       kept = λ l o. stays l (λ e. fresh l o (sym (ap (λ (k : LineKey). k.uid) e) ∙ here.uid)) (a.kept l o);
       every = λ l h e. ⊎_elim
-          (λ (same_place : l.key.place ≡ p). subst (λ (y : Line). On after y) (some_is x l (line ∙ (ap (line_at station r) (sym same_place) ∙ e))) on_x)
+          (λ (same_place : l.key.place ≡ p). subst (λ (y : Line). On after y) (same_Some x l (line ∙ (ap (line_at station r) (sym same_place) ∙ e))) on_x)
           (λ ne. stays l (λ k. ne (sym (ap (λ (j : LineKey). j.place) k) ∙ here.place)) (a.every l (omega arith) e))
           (cases_eq l.key.place p);
       few =

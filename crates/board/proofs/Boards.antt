@@ -1,5 +1,6 @@
 -- A walk over the trains of a map that fills in a board.
 use Rattle.std.proofs.Common.{◌≡◌, ℕ, ◌+◌, ◌<◌, ◌≤◌, true, false, List, [], length, Some, None, Option, sym, refl, ap, ◌∙◌, ⊎_elim, arith}
+use Rattle.std.proofs.lemmas.Option.{none-some}
 use Rattle.std.proofs.lemmas.Bool.{both_ways, cases_lt, cases_order}
 use Rattle.std.proofs.lemmas.Bool.Decides.{nat_tests}
 use Rattle.maps.specs.Maps.{ascending, lookup, map_from, has_distinct_keys}
@@ -12,7 +13,6 @@ use Rattle.timetable.specs.Timetables.{not_before, IsMap}
 use Rattle.timetable.proofs.Nexts.{next, all_before, left, walk_falls}
 use Rattle.running.specs.Running.{Holds}
 use Rattle.running.specs.Walking.{first_of, IsFirst}
-use Rattle.running.proofs.Forces.{none_some}
 use Rattle.running.proofs.Trains.{own, first_there, left_all, still_next}
 use Rattle.running.proofs.Walks.{held_has}
 use Rattle.board.specs.declared.line.LineKey.{LineKey}
@@ -68,7 +68,7 @@ earlier m u uid (Some k) is e l = let r = from_train k u (next m (first_of u) k 
 
 pub start : (m : List Record) (station : List ℕ) (day : ℕ) (o : Option Key) → IsMap m → o ≡ not_before m (first_of 0) → UpTo m station day o []
 start m station day o is e = record {
-  only = λ l on. absurd (none_some l on);
+  only = λ l on. absurd (none-some l on);
   every = λ l i b. absurd (not_between m station day 0 o is e l i (omega arith) b);
   distinct = refl;
 }
@@ -152,7 +152,7 @@ same_look m n station day xs ys a b k over back =
     line_of xs k (lookup line_before line_key xs k ≡ lookup line_before line_key ys k)
     (λ l e. e ∙ sym (carried m n station day xs ys a b k over l e))
     (λ e. line_of ys k (lookup line_before line_key xs k ≡ lookup line_before line_key ys k)
-    (λ l f. absurd (none_some l (sym e ∙ carried n m station day ys xs b a k back l f)))
+    (λ l f. absurd (none-some l (sym e ∙ carried n m station day ys xs b a k back l f)))
     (λ f. e ∙ sym f))
 
 pub board_one : BoardIsOne

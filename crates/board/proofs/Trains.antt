@@ -1,5 +1,6 @@
 -- The lines of one train, by its schedule in force.
 use Rattle.std.proofs.Common.{◌≡◌, ℕ, ◌<◌, ◌≤◌, Bool, true, false, leb, List, [], take, sym, refl, ap, ◌∙◌, subst, inl, inr, ⊎_elim, arith}
+use Rattle.std.proofs.lemmas.Option.{none-some}
 use Rattle.std.proofs.lemmas.Bool.{and_parts, leb-true, both_ways}
 use Rattle.forms.specs.declared.letters.Stp.{Stp}
 use Rattle.forms.specs.declared.letters.Stp.TheVariants.{Cancellation, ShortTerm, Overlay, Permanent}
@@ -7,7 +8,7 @@ use Rattle.schedule.specs.declared.record.Record.{Record}
 use Rattle.schedule.specs.Records.{visits, kept_calls, few_visits, in_range, is_cancellation, is_schedule}
 use Rattle.running.specs.Running.{covering, InForce}
 use Rattle.running.specs.Laws.{SameCandidates}
-use Rattle.running.proofs.Forces.{one, same_force, same_held_candidates, none_some}
+use Rattle.running.proofs.Forces.{one, same_force, same_held_candidates}
 use Rattle.board.specs.declared.line.Line.{Line}
 use Rattle.board.specs.Lines.{line_at, IsLineBy, IsLine, SameCandidatesSameBoard, LinesOfTrainAlone, InForceHides, CancelledHides}
 use Rattle.board.specs.Filling.{Added, Trained}
@@ -81,7 +82,7 @@ train_alone m n station day uid same l e i =
 pub hides : InForceHides
 hides m station day uid r f none l e i =
     let s = in_force_is m station day uid [] r f l i e in
-    none_some l (sym (none l.key.place (subst (λ (x : Record). l.key.place < x.count) s i.kept)) ∙ (ap (λ (x : Record). line_at station x l.key.place) (sym s) ∙ i.line))
+    none-some l (sym (none l.key.place (subst (λ (x : Record). l.key.place < x.count) s i.kept)) ∙ (ap (λ (x : Record). line_at station x l.key.place) (sym s) ∙ i.line))
 
 pub cancelled : CancelledHides
 cancelled m station day uid r f c l e i = cancelled_none m station day uid [] r f c l i e

@@ -2,7 +2,7 @@
 ghost use Rattle.board.specs.Lines.{SameCandidatesSameBoard, BoardIsOne, LinesOfTrainAlone, InForceHides, CancelledHides};
 ghost use Rattle.board.specs.Strikes.{UnnamedLinesStay};
 
-/// The same candidates, the same board: whatever rule says which days a schedule covers, and in any map.
+/// The same candidates, the same board: by any two rules that say which days a schedule covers, in any two maps.
 pub fn same_candidates_same_board()
     ensures { SameCandidatesSameBoard }
 {}

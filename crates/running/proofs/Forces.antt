@@ -1,5 +1,6 @@
 -- Why at most one schedule is in force, and which schedules matter.
-use Rattle.std.proofs.Common.{◌≡◌, ℕ, false, leb, List, Some, None, sym, refl, ap, ◌∙◌, ⊎_elim, arith}
+use Rattle.std.proofs.Common.{◌≡◌, ℕ, false, leb, List, sym, refl, ap, ◌∙◌, ⊎_elim, arith}
+use Rattle.std.proofs.lemmas.Option.{none-some, same_Some}
 use Rattle.std.proofs.lemmas.Bool.{le-leb, and_from, both_ways}
 use Rattle.forms.specs.declared.end.End.{End}
 use Rattle.forms.specs.Ends.{lasts}
@@ -14,12 +15,9 @@ use Rattle.timetable.proofs.Keys.{keep}
 use Rattle.running.specs.Running.{Holds, Candidate, Outranks, InForce, covering}
 use Rattle.running.specs.Laws.{SameCandidates, SameCandidatesSameForce, NoEndIsCandidate, OneInForce, TrainAlone, OnlyOnItsDays}
 
-pub some_is : {X : Type 0} (x y : X) → Some x ≡ Some y → x ≡ y
-some_is x y h = cc
-
 -- two schedules of a map under one key are one
 pub same_held : (m : List Record) (r s : Record) → Holds m r → Holds m s → key_of r ≡ key_of s → r ≡ s
-same_held m r s h i e = some_is r s (sym h ∙ (ap (schedule_of m) e ∙ i))
+same_held m r s h i e = same_Some r s (sym h ∙ (ap (schedule_of m) e ∙ i))
 
 -- schedules that outrank each other have one letter and one start
 both_outrank : (r s : Record) → Outranks r s → Outranks s r → (rank_of r.key.stp ≡ rank_of s.key.stp) × (r.key.from ≡ s.key.from)
@@ -56,9 +54,6 @@ same_held_candidates m n uid day same s = (
 pub alone : TrainAlone
 alone m n uid day same r p = same_force covering covering m n uid day (same_held_candidates m n uid day same) r p
 
-pub none_some : {X : Type 0} (x : X) → None ≡ Some x → ⊥
-none_some x h = let z : ◌≡◌ {A = ℕ} 0 1 = cc in omega arith
-
 module _ (m : List Record) (uid day : ℕ) (c : Record) (is : IsMap m) (off : covering c day ≡ false) (held : Holds m c) where
   -- a candidate has another key than a schedule that does not cover the day
   apart : (s : Record) → Candidate m uid day s → key_of c ≡ key_of s → ⊥
@@ -66,7 +61,7 @@ module _ (m : List Record) (uid day : ℕ) (c : Record) (is : IsMap m) (off : co
       both_ways (covering c day) off (ap (λ (r : Record). covering r day) (same_held m c s held p.there e) ∙ p.on)
 
   gone : (s : Record) → Candidate (without_key m (key_of c)) uid day s → key_of c ≡ key_of s → ⊥
-  gone s p e = none_some s (sym (keep.removed m (key_of c) is) ∙ (ap (schedule_of (without_key m (key_of c))) e ∙ p.there))
+  gone s p e = none-some s (sym (keep.removed m (key_of c) is) ∙ (ap (schedule_of (without_key m (key_of c))) e ∙ p.there))
 
   away : (s : Record) → Candidate m uid day s → Candidate (without_key m (key_of c)) uid day s
   away s p = moved m (without_key m (key_of c)) uid day s (sym (keep.removed_others m (key_of c) (key_of s) is (apart s p))) p

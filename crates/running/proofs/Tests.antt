@@ -1,5 +1,6 @@
 -- What is in force in a map that is written out, by a test that computes.
 use Rattle.std.proofs.Common.{◌≡◌, ℕ, Bool, true, false, not, ◌&&◌, ◌||◌, eqb, List, [], ◌∷◌, Some, sym, refl, ap, ◌∙◌, ⊎_elim}
+use Rattle.std.proofs.lemmas.Option.{none-some, same_Some}
 use Rattle.std.proofs.lemmas.Bool.{and_parts, cases_Bool, both_ways, cond-true, cond-false, eq-eqb, and_from}
 use Rattle.maps.specs.Orders.{same}
 use Rattle.schedule.specs.declared.key.Key.{Key}
@@ -10,7 +11,6 @@ use Rattle.timetable.specs.Timetables.{schedule_of}
 use Rattle.running.specs.Running.{Holds, Candidate, InForce, covering}
 use Rattle.running.specs.Walking.{outranking}
 use Rattle.running.specs.Worked.{Worked}
-use Rattle.running.proofs.Forces.{some_is, none_some}
 use Rattle.running.proofs.Walks.{outranking_true}
 
 -- every schedule of the train that covers the day passes a test
@@ -20,12 +20,12 @@ passing test uid day (s ∷ ss) = (not (eqb s.key.uid uid && covering s day) || 
 
 passes : (test : Record → Bool) (uid day : ℕ) (m : List Record) (k : Key) (s : Record) → passing test uid day m ≡ true → schedule_of m k ≡ Some s → (eqb s.key.uid uid && covering s day) ≡ true → test s ≡ true
 unfolding passing
-passes test uid day [] k s p h c = absurd (none_some s h)
+passes test uid day [] k s p h c = absurd (none-some s h)
 passes test uid day (y ∷ ys) k s p h c =
     let q = and_parts (not (eqb y.key.uid uid && covering y day) || test y) (passing test uid day ys) p in
     ⊎_elim
     (λ t.
-    let e : s ≡ y = some_is s y (sym h ∙ cond-true (same key_before (key_of y) k) (Some y) (schedule_of ys k) t) in
+    let e : s ≡ y = same_Some s y (sym h ∙ cond-true (same key_before (key_of y) k) (Some y) (schedule_of ys k) t) in
     ap test e ∙ (sym (ap (λ (b : Bool). not b || test y) (sym (ap (λ (r : Record). eqb r.key.uid uid && covering r day) e) ∙ c)) ∙ q.0))
     (λ f. passes test uid day ys k s q.1 (sym (cond-false (same key_before (key_of y) k) (Some y) (schedule_of ys k) f) ∙ h) c)
     (cases_Bool (same key_before (key_of y) k))
@@ -58,5 +58,6 @@ worked = record {
   ended_overlay = by_test _ _ _ _ refl refl refl refl;
   last_first_day = by_test _ _ _ _ refl refl refl refl;
   unended_overlay = by_test _ _ _ _ refl refl refl refl;
+  overlay_alone = by_test _ _ _ _ refl refl refl refl;
   short_term = by_test _ _ _ _ refl refl refl refl;
 }

@@ -1,5 +1,6 @@
 -- A walk over one train, from its first key to the first key of the next.
 use Rattle.std.proofs.Common.{◌≡◌, ℕ, ◌+◌, ◌<◌, ◌≤◌, true, false, cond, List, [], ◌∷◌, length, Some, None, Option, sym, ap, ◌∙◌, ⊎_elim, arith}
+use Rattle.std.proofs.lemmas.Option.{none-some, same_Some}
 use Rattle.std.proofs.lemmas.Bool.{cases_Bool, both_ways}
 use Rattle.std.proofs.lemmas.Bool.Decides.{nat_tests}
 use Rattle.schedule.specs.declared.key.Key.{Key}
@@ -12,7 +13,6 @@ use Rattle.timetable.specs.Laws.{Has, has_key}
 use Rattle.timetable.proofs.Nexts.{Next, next, left, walk_falls}
 use Rattle.running.specs.Running.{Candidate}
 use Rattle.running.specs.Walking.{first_of, IsFirst}
-use Rattle.running.proofs.Forces.{some_is, none_some}
 use Rattle.running.proofs.Walks.{Walked, begin, held_has}
 
 -- a key of the map is the next one from itself on
@@ -69,12 +69,12 @@ first_there m first is f = (next m (first_of first.uid) first is f).there
 -- the next key from a probe on is the next one from each later probe on that it is not before
 module _ (p q : Key) (on : (k : Key) → key_before k p ≡ true → key_before k q ≡ true) where
   pub still_next : (m : List Record) (key : Key) → not_before m p ≡ Some key → key_before key q ≡ false → not_before m q ≡ Some key
-  still_next [] key h g = absurd (none_some key h)
+  still_next [] key h g = absurd (none-some key h)
   still_next (r ∷ rs) key h g =
       ⊎_elim
       (λ (t : key_before (key_of r) p ≡ true). let u : key_before (key_of r) q ≡ true = on (key_of r) t in rw u (still_next rs key (rw t at h) g))
       (λ (f : key_before (key_of r) p ≡ false).
-      let e : key_of r ≡ key = some_is (key_of r) key (rw f at h) in
+      let e : key_of r ≡ key = same_Some (key_of r) key (rw f at h) in
       let u : key_before (key_of r) q ≡ false = ap (λ (k : Key). key_before k q) e ∙ g in
       rw u (ap Some e))
       (cases_Bool (key_before (key_of r) p))
@@ -84,7 +84,7 @@ module _ (p q : Key) (on : (k : Key) → key_before k p ≡ true → key_before 
   still_none (r ∷ rs) h =
       ⊎_elim
       (λ (t : key_before (key_of r) p ≡ true). let u : key_before (key_of r) q ≡ true = on (key_of r) t in rw u (still_none rs (rw t at h)))
-      (λ (f : key_before (key_of r) p ≡ false). absurd (none_some (key_of r) (sym (rw f at h))))
+      (λ (f : key_before (key_of r) p ≡ false). absurd (none-some (key_of r) (sym (rw f at h))))
       (cases_Bool (key_before (key_of r) p))
 
 -- what is before a key of a train is before the next train

@@ -1,5 +1,6 @@
 -- One turn of the walk over the keys of a train, and its end.
 use Rattle.std.proofs.Common.{◌≡◌, ℕ, Bool, true, false, cond, ◌<◌, ◌&&◌, leb, ◌⊎◌, List, Some, None, Option, MatchOption, sym, refl, ap, ◌∙◌, subst, inl, inr, ⊎_elim, arith}
+use Rattle.std.proofs.lemmas.Option.{none-some, same_Some}
 use Rattle.std.proofs.lemmas.Bool.{and_parts, cases_Bool, both_ways, cond-true, cond-false}
 use Rattle.std.proofs.lemmas.Bool.Decides.{nat_tests}
 use Rattle.schedule.specs.declared.key.Key.{Key}
@@ -12,7 +13,7 @@ use Rattle.timetable.specs.Timetables.{schedule_of}
 use Rattle.timetable.proofs.Nexts.{Next, has_held, found_key}
 use Rattle.running.specs.Running.{Holds, Candidate, Outranks, InForce, covering}
 use Rattle.running.specs.Walking.{outranking, takes, record_in}
-use Rattle.running.proofs.Forces.{same_held, some_is, none_some}
+use Rattle.running.proofs.Forces.{same_held}
 use Rattle.running.proofs.Walks.{Walked, held_has, outranking_true, outranking_false, outranks_trans, outranks_self}
 
 not_begun : (r : Record) (d : ℕ) → d < r.key.from → leb r.key.from d ≡ false
@@ -48,13 +49,13 @@ module _ (m : List Record) (uid day : ℕ) (probe key nxt : Key) (h : Record) (b
 
   taken : takes h day best ≡ true → Walked m uid day nxt (Some h)
   taken t = record {
-    has = λ b e. subst (λ (r : Record). Candidate m uid day r) (some_is h b e) (record { there = there; train = ap (λ (k : Key). k.uid) (found_key m key h is) ∙ train; on = covers_taken h day best t });
-    first = λ b e s c k. subst (λ (r : Record). Outranks r s) (some_is h b e)
+    has = λ b e. subst (λ (r : Record). Candidate m uid day r) (same_Some h b e) (record { there = there; train = ap (λ (k : Key). k.uid) (found_key m key h is) ∙ train; on = covers_taken h day best t });
+    first = λ b e s c k. subst (λ (r : Record). Outranks r s) (same_Some h b e)
         (⊎_elim
         (λ old. over best refl t s c old)
         (λ e. subst (λ (r : Record). Outranks h r) (sym e) (outranks_self h))
         (old_or_here s c k));
-    none = λ e. absurd (none_some h (sym e));
+    none = λ e. absurd (none-some h (sym e));
   }
     where
       over : (o : Option Record) → best ≡ o → takes h day o ≡ true → (s : Record) → Candidate m uid day s → key_before (key_of s) probe ≡ true → Outranks h s

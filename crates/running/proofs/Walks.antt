@@ -1,5 +1,6 @@
 -- A walk over the keys of a train that keeps the best candidate so far.
 use Rattle.std.proofs.Common.{◌≡◌, ℕ, true, false, eqb, ltb, List, is_some, Some, None, Option, sym, refl, ap, ◌∙◌, inl, inr, ⊎_elim, arith}
+use Rattle.std.proofs.lemmas.Option.{none-some}
 use Rattle.std.proofs.lemmas.Bool.{and_parts, and_cases, or_cases, or_parts, ltb-true, ltb-false, leb-true, leb-false, eqb-true, eqb-false, cases_order}
 use Rattle.std.proofs.lemmas.Bool.Decides.{nat_tests}
 use Rattle.forms.specs.declared.letters.Stp.TheVariants.{Cancellation}
@@ -10,7 +11,6 @@ use Rattle.schedule.specs.Records.{key_of}
 use Rattle.timetable.specs.Laws.{Has}
 use Rattle.running.specs.Running.{Holds, Candidate, Outranks}
 use Rattle.running.specs.Walking.{outranking}
-use Rattle.running.proofs.Forces.{none_some}
 
 pub held_has : (m : List Record) (r : Record) → Holds m r → Has m (key_of r)
 held_has m r h = ap is_some h
@@ -55,7 +55,7 @@ before_first k uid e h = let z : ◌≡◌ {A = ℕ} 0 1 = grind (arith, nat_tes
 
 pub begin : (m : List Record) (uid day : ℕ) → Walked m uid day (record { uid = uid; from = 0; stp = Cancellation }) None
 begin m uid day = record {
-  has = λ b e. absurd (none_some b e);
-  first = λ b e. absurd (none_some b e);
+  has = λ b e. absurd (none-some b e);
+  first = λ b e. absurd (none-some b e);
   none = λ _ s c b. before_first (key_of s) uid c.train b;
 }

@@ -1,4 +1,4 @@
--- Worked cases: those of the fields and the rows, and a worked week, from the texts of its rows.
+-- Worked cases: those of the fields and the rows, a worked week, and trains that run until further notice, from the texts of rows.
 use Rattle.std.specs.Prelude.{◌≡◌, ℕ, Bool, List, [], ◌∷◌, map, Some, None, Option, codes, slice_index}
 use Rattle.std.specs.Option.{option_map}
 use Rattle.forms.specs.declared.letters.Stp.{Stp}
@@ -18,42 +18,42 @@ as_read (Some uid) (Some stp) (Some from) (Some to) (Some days) =
 as_read _ _ _ _ _ = None
 
 -- a schedule of the train C12345, by the texts of STP letter, first day, end and days run
-abbrev pub schedule_by : List ℕ → List ℕ → List ℕ → List ℕ → Option Record
-schedule_by letter from to days = as_read (uid_in (codes "C12345")) (stp_in (slice_index letter 0)) (date_in from) (end_in to) (days_run_in days)
+abbrev pub schedule_read : List ℕ → List ℕ → List ℕ → List ℕ → Option Record
+schedule_read letter from to days = as_read (uid_in (codes "C12345")) (stp_in (slice_index letter 0)) (date_in from) (end_in to) (days_run_in days)
 
 -- P from 231211 to 240531 and O from 240304 to 240308 on Mondays to Fridays, C on the Wednesday 240306
 abbrev pub permanent : Option Record
-permanent = schedule_by (codes "P") (codes "231211") (codes "240531") (codes "1111100")
+permanent = schedule_read (codes "P") (codes "231211") (codes "240531") (codes "1111100")
 
 abbrev pub overlay : Option Record
-overlay = schedule_by (codes "O") (codes "240304") (codes "240308") (codes "1111100")
+overlay = schedule_read (codes "O") (codes "240304") (codes "240308") (codes "1111100")
 
 abbrev pub cancelled : Option Record
-cancelled = schedule_by (codes "C") (codes "240306") (codes "240306") (codes "0010000")
+cancelled = schedule_read (codes "C") (codes "240306") (codes "240306") (codes "0010000")
 
 -- a second permanent schedule that begins later, and a new short-term train over the overlay's days
 abbrev pub later : Option Record
-later = schedule_by (codes "P") (codes "240226") (codes "240531") (codes "1111100")
+later = schedule_read (codes "P") (codes "240226") (codes "240531") (codes "1111100")
 
 abbrev pub short : Option Record
-short = schedule_by (codes "N") (codes "240304") (codes "240308") (codes "1111100")
+short = schedule_read (codes "N") (codes "240304") (codes "240308") (codes "1111100")
 
 -- a permanent schedule until further notice, an overlay of one day, and a new short-term train that begins on the last day that has a
 -- number; a permanent schedule of two days, and an overlay until further notice
 abbrev pub unended : Option Record
-unended = schedule_by (codes "P") (codes "591229") (codes "999999") (codes "1111111")
+unended = schedule_read (codes "P") (codes "591229") (codes "999999") (codes "1111111")
 
 abbrev pub one_day : Option Record
-one_day = schedule_by (codes "O") (codes "591230") (codes "591230") (codes "1111111")
+one_day = schedule_read (codes "O") (codes "591230") (codes "591230") (codes "1111111")
 
 abbrev pub on_last_day : Option Record
-on_last_day = schedule_by (codes "N") (codes "591231") (codes "999999") (codes "1111111")
+on_last_day = schedule_read (codes "N") (codes "591231") (codes "999999") (codes "1111111")
 
 abbrev pub two_days : Option Record
-two_days = schedule_by (codes "P") (codes "591229") (codes "591230") (codes "1111111")
+two_days = schedule_read (codes "P") (codes "591229") (codes "591230") (codes "1111111")
 
 abbrev pub overlay_on : Option Record
-overlay_on = schedule_by (codes "O") (codes "591230") (codes "999999") (codes "1111111")
+overlay_on = schedule_read (codes "O") (codes "591230") (codes "999999") (codes "1111111")
 
 -- the map of some schedules, if each was read
 abbrev pub map_of : List (Option Record) → Option (List Record)
@@ -98,5 +98,6 @@ pub record Worked : Type 0 where
   pub first_day : IsInForce (map_of (unended ∷ one_day ∷ on_last_day ∷ [])) (codes "591229") unended
   pub ended_overlay : IsInForce (map_of (unended ∷ one_day ∷ on_last_day ∷ [])) (codes "591230") one_day
   pub last_first_day : IsInForce (map_of (unended ∷ one_day ∷ on_last_day ∷ [])) (codes "591231") on_last_day
-  pub unended_overlay : IsInForce (map_of (two_days ∷ overlay_on ∷ [])) (codes "591231") overlay_on
+  pub unended_overlay : IsInForce (map_of (two_days ∷ overlay_on ∷ [])) (codes "591230") overlay_on
+  pub overlay_alone : IsInForce (map_of (two_days ∷ overlay_on ∷ [])) (codes "591231") overlay_on
   pub short_term : IsInForce (map_of (permanent ∷ short ∷ overlay ∷ [])) (codes "240304") short

@@ -12,7 +12,7 @@ use schedule::record::Record;
 use schedule::schedule::Schedule;
 use timetable::Timetable;
 
-// Whether a schedule covers a day and has its weekday.
+// Whether a schedule covers a day.
 fn covers(fields: &Record, day: u16) -> bool
     ensures { result ≡ covering fields.now day }
 {

@@ -2,7 +2,7 @@
 ghost use Rattle.running.specs.Dated.{SameCandidatesWhereAllEnd};
 ghost use Rattle.running.specs.Laws.{SameCandidatesSameForce, NoEndIsCandidate, OneInForce, TrainAlone, OnlyOnItsDays};
 
-/// The same candidates, the same schedule in force: any two ways of saying which schedules are candidates.
+/// The same candidates, the same schedule in force: by any two rules that say which days a schedule covers, in any two maps.
 pub fn same_candidates_same_force()
     ensures { SameCandidatesSameForce }
 {}
