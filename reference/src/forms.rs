@@ -51,28 +51,29 @@ impl Form for Date {
     }
 }
 
-/// The last day that a train runs, or none where it runs until further notice.
+/// The end of a schedule: the last day that the train runs, or that it has no end and runs until
+/// further notice.
 #[derive(Clone, Copy, Debug, PartialEq, Eq)]
 pub enum End {
-    Day(Date),
-    Never,
+    LastDay(Date),
+    NoEnd,
 }
 
 impl End {
     /// The digits that stand for no end.
-    pub const NEVER: &[u8; 6] = b"999999";
+    pub const NO_END: &[u8; 6] = b"999999";
 
     /// Whether a schedule with this end lasts to the day: its last day is that or a later one, or
     /// it has none.
     pub fn lasts_to(self, day: Date) -> bool {
-        self.day().is_none_or(|last| day <= last)
+        self.last_day().is_none_or(|last| day <= last)
     }
 
     /// The last day, if there is one.
-    pub fn day(self) -> Option<Date> {
+    pub fn last_day(self) -> Option<Date> {
         match self {
-            End::Day(last) => Some(last),
-            End::Never => None,
+            End::LastDay(last) => Some(last),
+            End::NoEnd => None,
         }
     }
 }
@@ -80,10 +81,10 @@ impl End {
 /// `999999`, or a date.
 impl Form for End {
     fn read(bytes: &[u8]) -> Option<End> {
-        if bytes == End::NEVER {
-            return Some(End::Never);
+        if bytes == End::NO_END {
+            return Some(End::NoEnd);
         }
-        Date::read(bytes).map(End::Day)
+        Date::read(bytes).map(End::LastDay)
     }
 }
 
@@ -254,8 +255,8 @@ mod tests {
 
     #[test]
     fn ends() {
-        let day = |number| Some(End::Day(Date::at_number(number)));
-        assert_eq!(End::read(b"999999"), Some(End::Never));
+        let day = |number| Some(End::LastDay(Date::at_number(number)));
+        assert_eq!(End::read(b"999999"), Some(End::NoEnd));
         assert_eq!(End::read(b"240531"), day(23_527));
         assert_eq!(End::read(b"600101"), day(0));
         assert_eq!(End::read(b"591231"), day(36_524));
@@ -271,11 +272,11 @@ mod tests {
     #[test]
     fn how_long_it_lasts() {
         let lasts = |end: End, number| end.lasts_to(Date::at_number(number));
-        let end = End::Day(Date::at_number(23_527));
+        let end = End::LastDay(Date::at_number(23_527));
         assert!(lasts(end, 0) && lasts(end, 23_526) && lasts(end, 23_527));
         assert!(!lasts(end, 23_528) && !lasts(end, 36_524));
         for number in [0, 1, 23_528, 36_523, 36_524] {
-            assert!(lasts(End::Never, number));
+            assert!(lasts(End::NoEnd, number));
         }
     }
 }

@@ -69,8 +69,8 @@ pub const NO_END: &str = "until further notice";
 impl Display for End {
     fn fmt(&self, f: &mut Formatter<'_>) -> Result {
         match self {
-            End::Day(last) => write!(f, "to {last}"),
-            End::Never => f.write_str(NO_END),
+            End::LastDay(last) => write!(f, "to {last}"),
+            End::NoEnd => f.write_str(NO_END),
         }
     }
 }

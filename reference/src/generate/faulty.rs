@@ -113,7 +113,7 @@ pub fn reversed_days(random: &mut SplitMix) -> Vec<u8> {
 pub fn no_first_day(random: &mut SplitMix) -> Vec<u8> {
     let sort = *random.choose(&[Sort::CHANGED, Sort::CHANGED, Sort::DELETED]);
     let mut row = lawful::row(random, sort);
-    put(&mut row, 10, End::NEVER);
+    put(&mut row, 10, End::NO_END);
     row
 }
 
@@ -168,7 +168,7 @@ fn near_miss(random: &mut SplitMix, spec: Spec) -> Vec<u8> {
     match spec {
         Spec::Uid if random.once_in(2) => with_one(random, spec, 0..1, b"@[abz 0"),
         Spec::Uid => with_one(random, spec, 1..6, b"/: AO"),
-        Spec::Date if random.once_in(2) => End::NEVER.to_vec(),
+        Spec::Date if random.once_in(2) => End::NO_END.to_vec(),
         Spec::End if random.once_in(4) => nearly_no_end(random),
         Spec::Date | Spec::End if random.once_in(3) => with_one(random, Spec::Date, 0..6, b"/: O"),
         Spec::Date | Spec::End => no_such_day(random),
@@ -208,7 +208,7 @@ fn with_one(
 
 /// What stands for no end, with another digit, a blank or a mark in one place: no date either.
 fn nearly_no_end(random: &mut SplitMix) -> Vec<u8> {
-    let mut bytes = End::NEVER.to_vec();
+    let mut bytes = End::NO_END.to_vec();
     let index = random.index(bytes.len());
     bytes[index] = *random.choose(b"0128 /:");
     bytes

@@ -66,7 +66,7 @@ pub fn row(random: &mut SplitMix, sort: Sort) -> Vec<u8> {
         };
         put_run(random, &mut row, first.min(last), first.max(last));
     } else if sort == Sort::DELETED && random.once_in(ENDLESS) {
-        put(&mut row, 16, End::NEVER);
+        put(&mut row, 16, End::NO_END);
     }
     row
 }
@@ -76,7 +76,7 @@ pub fn row(random: &mut SplitMix, sort: Sort) -> Vec<u8> {
 pub fn put_run(random: &mut SplitMix, row: &mut [u8], first: u32, last: u32) {
     put_days(row, first, last);
     if random.once_in(ENDLESS) {
-        put(row, 16, End::NEVER);
+        put(row, 16, End::NO_END);
     }
 }
 
@@ -90,7 +90,7 @@ pub fn put_days(row: &mut [u8], first: u32, last: u32) {
 pub fn value(random: &mut SplitMix, spec: Spec) -> Vec<u8> {
     match spec {
         Spec::Uid => [random.bytes(1, LETTERS), random.bytes(5, DIGITS)].concat(),
-        Spec::End if random.once_in(ENDLESS) => End::NEVER.to_vec(),
+        Spec::End if random.once_in(ENDLESS) => End::NO_END.to_vec(),
         Spec::Date | Spec::End => Date::at_number(random.below(DAYS)).digits().into_bytes(),
         Spec::DaysRun if random.once_in(16) => b"0000000".to_vec(),
         Spec::DaysRun => random.bytes(7, b"01"),

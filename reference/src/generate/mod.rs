@@ -96,7 +96,7 @@ mod tests {
         let mut random = SplitMix::new(5);
         for sort in [Sort::CHANGED, Sort::DELETED] {
             let rows = (0..10_000).map(|_| lawful::row(&mut random, sort));
-            let endless = rows.filter(|row| row[15..21] == *End::NEVER).count();
+            let endless = rows.filter(|row| row[15..21] == *End::NO_END).count();
             assert!((900..1_100).contains(&endless), "{endless}");
         }
     }

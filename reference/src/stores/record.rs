@@ -101,7 +101,7 @@ impl Schedule {
     /// The schedule that a record is, or `None` where it lacks what every schedule has.
     pub fn check(record: Record) -> Option<Schedule> {
         let Key { uid, first, stp } = record.key;
-        let days = [Some(first), record.end.day()];
+        let days = [Some(first), record.end.last_day()];
         let lawful = uid.0 < UIDS
             && days.into_iter().flatten().all(|day| day.number() < DAYS)
             && record.end.lasts_to(first)
@@ -132,8 +132,8 @@ impl fmt::Display for Schedule {
             calls,
         } = &self.0;
         let end = match end {
-            End::Day(last) => format!("to day {}", last.number()),
-            End::Never => words::NO_END.to_owned(),
+            End::LastDay(last) => format!("to day {}", last.number()),
+            End::NoEnd => words::NO_END.to_owned(),
         };
         write!(
             f,

@@ -148,7 +148,7 @@ mod tests {
     /// A schedule that runs up to the day of this number.
     fn schedule(uid: u32, last: u32) -> Schedule {
         let running = Running {
-            end: End::Day(Date::at_number(last)),
+            end: End::LastDay(Date::at_number(last)),
             days: DaysRun([true; 7]),
             identity: Label("1A23".to_owned()),
         };
