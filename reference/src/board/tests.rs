@@ -177,7 +177,9 @@ fn no_such_station_or_day() {
     for station in ["", "halta", " HALTA", "HAL TA", "       ", "HALTA   ", "É"] {
         refused(station, "240304");
     }
-    for date in ["", "240230", "24030", "2403040", "24030x", "+40304"] {
+    for date in [
+        "", "240230", "999999", "24030", "2403040", "24030x", "+40304",
+    ] {
         refused("HALTA", date);
     }
 }

@@ -90,7 +90,6 @@ pub fn put_days(row: &mut [u8], first: u32, last: u32) {
 pub fn value(random: &mut SplitMix, spec: Spec) -> Vec<u8> {
     match spec {
         Spec::Uid => [random.bytes(1, LETTERS), random.bytes(5, DIGITS)].concat(),
-        Spec::End if random.once_in(ENDLESS) => End::NO_END.to_vec(),
         Spec::Date | Spec::End => Date::at_number(random.below(DAYS)).digits().into_bytes(),
         Spec::DaysRun if random.once_in(16) => b"0000000".to_vec(),
         Spec::DaysRun => random.bytes(7, b"01"),

@@ -79,7 +79,8 @@ fn row(random: &mut SplitMix) -> Vec<u8> {
 mod tests {
     use super::*;
     use crate::forms::End;
-    use crate::row::Row;
+    use crate::replay::script::{self, Call};
+    use crate::row::{Change, Row};
     use spec::Sort;
 
     #[test]
@@ -98,6 +99,47 @@ mod tests {
             let rows = (0..10_000).map(|_| lawful::row(&mut random, sort));
             let endless = rows.filter(|row| row[15..21] == *End::NO_END).count();
             assert!((900..1_100).contains(&endless), "{endless}");
+        }
+    }
+
+    /// The end that the row gives a schedule, if it is read as one that is new or revised.
+    fn end(row: &[u8]) -> Option<End> {
+        let Row::Schedule(schedule) = Row::read(row).ok()?.1 else {
+            return None;
+        };
+        match schedule.change {
+            Change::New(running) | Change::Revised(running) => Some(running.end),
+            Change::Deleted => None,
+        }
+    }
+
+    /// The rows of random histories that are not handed by open.
+    fn rows_of_histories(random: &mut SplitMix) -> Vec<Vec<u8>> {
+        let lines = histories::script(random, 200);
+        let histories = script::read(&lines.join(&b'\n')).unwrap();
+        let calls = histories.into_iter().flat_map(|history| history.calls);
+        calls
+            .filter_map(|call| match call {
+                Call::Row(row) => Some(row),
+                _ => None,
+            })
+            .collect()
+    }
+
+    #[test]
+    fn one_schedule_in_ten_of_files_and_histories_has_no_end() {
+        let random = &mut SplitMix::new(9);
+        for rows in [
+            schedules::extract(random, 4_000),
+            extracts::extracts(random, 400),
+            rows_of_histories(random),
+        ] {
+            let ends: Vec<End> = rows.iter().filter_map(|row| end(row)).collect();
+            let endless = ends.iter().filter(|end| **end == End::NoEnd).count();
+            assert!(
+                (ends.len() / 11..ends.len() / 9).contains(&endless),
+                "{endless}"
+            );
         }
     }
 

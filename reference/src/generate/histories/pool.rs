@@ -79,11 +79,11 @@ impl Pool {
         (self.day(random), self.station(random))
     }
 
-    /// A day from the Sunday before the Monday to the Tuesday after, the week's more often; now and
-    /// then one far later, or the last of all.
+    /// A day from the Sunday before the Monday to the Tuesday after, the week's more often; once in
+    /// four times any later one, most often far past these, or the last of all.
     pub fn day(&self, random: &mut SplitMix) -> u32 {
         let days = [0, 1, 1, 1, 2, 2, 3, 3, 4, 5, 6, 7, 9];
-        match random.below(36) {
+        match random.below(8) {
             0 => DAYS - 1,
             1 => self.monday + random.below(DAYS - self.monday),
             _ => (self.monday - 1 + random.choose(&days)).min(DAYS - 1),
