@@ -116,6 +116,12 @@ same_by_both ℓ o = record {
   map = refl;
 }
 
+new_end : (start : List Record) → each_ends start ≡ true → AllEnd (new_ledger start)
+new_end start all = record { start = all; confirmed = refl }
+
+lines_end : (ℓ : Ledger) → AllEnd ℓ → SameLinesByBoth ℓ ℓ
+lines_end ℓ a = same_lines (confirmed_map ℓ) ℓ.shown (all_done_ends ℓ.start ℓ.confirmed a.start a.confirmed)
+
 none_parts : (before after : List (List ℕ)) → none_has_no_end (before ++ after) ≡ true → (none_has_no_end before ≡ true) × (none_has_no_end after ≡ true)
 none_parts before after h = and_parts (none_has_no_end before) (none_has_no_end after) (sym (list_all-append (λ row. not (has_no_end row)) before after) ∙ h)
 
@@ -176,6 +182,15 @@ heard_same capacity slots ℓ (call ∷ calls) o none =
       rest.1,
     )
 
+-- and all has a last day where it had at the start
+heard_end : (capacity slots : ℕ) (ℓ : Ledger) (calls : List Call) → none_has_no_end ℓ.rows ≡ true → none_is_handed_no_end calls ≡ true → AllEnd ℓ → AllEnd (ledger_heard capacity slots ℓ calls)
+heard_end capacity slots ℓ [] o none a = a
+heard_end capacity slots ℓ (call ∷ calls) o none a =
+    let parts = and_parts (not (is_handed_no_end call)) (none_is_handed_no_end calls) none in
+    let accepted = is_missing (refusal_of call (standing_of ℓ capacity) slots) in
+    heard_end capacity slots (ledger_after ℓ call accepted) calls (open_after ℓ call accepted o (not-true (is_handed_no_end call) parts.0)) parts.1
+    (after_end ℓ call accepted a (open_confirmed ℓ call accepted o))
+
 -- what new ledgers come to
 module _ (start : List Record) (entries : List Entry) (none : none_has_no_end (rows_after_all (new_ledger start) entries) ≡ true) where
   abbrev now : Ledger
@@ -191,9 +206,7 @@ module _ (start : List Record) (entries : List Entry) (none : none_has_no_end (r
   ledgers = subst (λ (b : Ledger). SameByBoth now b) same.0 (same_by_both now parts.1)
 
   lines : each_ends start ≡ true → SameLinesByBoth now (dated_after_all (new_ledger start) entries)
-  lines all =
-      let a = same.1 (record { start = all; confirmed = refl }) in
-      subst (λ (b : Ledger). SameLinesByBoth now b) same.0 (same_lines (confirmed_map now) now.shown (all_done_ends now.start now.confirmed a.start a.confirmed))
+  lines all = subst (λ (b : Ledger). SameLinesByBoth now b) same.0 (lines_end now (same.1 (new_end start all)))
 
 pub nothing_changes : NothingChangesWithoutNoEnd
 nothing_changes = record {
@@ -202,4 +215,8 @@ nothing_changes = record {
   histories = λ start capacity slots calls none.
       let same = heard_same capacity slots (new_ledger start) calls refl none in
       subst (λ (b : Ledger). SameByBoth (ledger_heard capacity slots (new_ledger start) calls) b) same.0 (same_by_both (ledger_heard capacity slots (new_ledger start) calls) same.1);
+  history_lines = λ start capacity slots calls all none.
+      let same = heard_same capacity slots (new_ledger start) calls refl none in
+      subst (λ (b : Ledger). SameLinesByBoth (ledger_heard capacity slots (new_ledger start) calls) b) same.0
+      (lines_end (ledger_heard capacity slots (new_ledger start) calls) (heard_end capacity slots (new_ledger start) calls refl none (new_end start all)));
 }

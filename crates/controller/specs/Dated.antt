@@ -65,8 +65,8 @@ rows_after_all ℓ entries = rows_confirmed ℓ entries ++ (ledger_after_all ℓ
 abbrev pub none_is_handed_no_end : List Call → Bool
 none_is_handed_no_end calls = list_all (λ call. not (is_handed_no_end call)) calls
 
--- a ledger by the rules of today and one by the rules as they were are the same: the rows, confirmed transactions and reference; what
--- the rows come to; how each call that is not handed such a row is judged; the map
+-- a ledger by the rules of today and one by the rules as they were are the same: the rows, confirmed transactions and reference; the
+-- transactions of the rows; how each call that is not handed such a row is judged; the map
 pub record SameByBoth (now before : Ledger) : Type 0 where
   pub ledger : now ≡ before
   pub transactions : transactions_of now.rows ≡ dated_transactions before.rows
@@ -91,12 +91,16 @@ dated_heard capacity slots ℓ calls = heard_by (λ l call. dated_refusal call (
 
 -- NOTHING CHANGES WITHOUT IT
 pub record NothingChangesWithoutNoEnd : Type 0 where
-  -- a ledger of whatever calls none of whose rows, confirmed or open, says that a train has no end is the ledger by the rules as they were
+  -- whatever calls are written down as accepted or refused: a ledger none of whose rows, confirmed or open, says that a train has no end is
+  -- that by the rules as they were
   pub ledgers : (start : List Record) (entries : List Entry) → none_has_no_end (rows_after_all (new_ledger start) entries) ≡ true
       → SameByBoth (ledger_after_all (new_ledger start) entries) (dated_after_all (new_ledger start) entries)
   -- its lines are those by the rules as they were, unless the store had a schedule with no end in it at the start, of which no row tells
   pub lines : (start : List Record) (entries : List Entry) → each_ends start ≡ true → none_has_no_end (rows_after_all (new_ledger start) entries) ≡ true
       → SameLinesByBoth (ledger_after_all (new_ledger start) entries) (dated_after_all (new_ledger start) entries)
-  -- whatever calls are heard, none of which is handed such a row: by both rules each is refused alike or accepted, and leaves the same
+  -- whatever calls are heard, none of which is handed such a row: after them the ledgers by both rules are the same, and so is how the next
+  -- call is judged; and so are the lines
   pub histories : (start : List Record) (capacity slots : ℕ) (calls : List Call) → none_is_handed_no_end calls ≡ true
       → SameByBoth (ledger_heard capacity slots (new_ledger start) calls) (dated_heard capacity slots (new_ledger start) calls)
+  pub history_lines : (start : List Record) (capacity slots : ℕ) (calls : List Call) → each_ends start ≡ true → none_is_handed_no_end calls ≡ true
+      → SameLinesByBoth (ledger_heard capacity slots (new_ledger start) calls) (dated_heard capacity slots (new_ledger start) calls)

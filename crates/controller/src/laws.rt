@@ -71,9 +71,9 @@ pub fn ledger_rows_are_taken()
     ensures { LedgerRowsAreTaken }
 {}
 
-/// Where no row of a ledger, confirmed or open, says that a train has no end, transactions, verdicts and map are those that they were
-/// while every schedule had a last day, whatever the calls; and so are the board lines, unless the store had a schedule with no end in it
-/// at the start.
+/// Where no row of a ledger, confirmed or open, says that a train has no end, its transactions, its map, and the verdict on every call that
+/// is not handed such a row are those that they were while every schedule had a last day, and so are the board lines, unless the store had
+/// a schedule with no end in it at the start. Where no call is handed such a row, all this is so after whatever calls, judged by both.
 pub fn nothing_changes_without_no_end()
     ensures { NothingChangesWithoutNoEnd }
 {}
